@@ -163,6 +163,11 @@ SNMPSEC_CALL void snmpsec_agent_free(snmpsec_agent *agent);
 SNMPSEC_CHECK int snmpsec_agent_new(const uint8_t *config, size_t config_len, const uint8_t *engine, size_t engine_len, uint32_t boots,
                                     uint64_t started, snmpsec_agent **out);
 
+/* Users and tables become those of a changed configuration. The engine ID, the boots, the moment of the start, all counters, what is kept and the message
+ * stay: so there is no restart, and managers need not learn the engine anew. SNMPSEC_BAD_CONFIGURATION (snmpsec_config_fault says where),
+ * SNMPSEC_OUT_OF_MEMORY: nothing changes. */
+SNMPSEC_CHECK int snmpsec_agent_reconfigure(snmpsec_agent *agent, const uint8_t *config, size_t config_len);
+
 /* Takes a datagram. SNMPSEC_OK: it is accepted, and kept for the calls below. A refusal: its report, if there is one, is the message. */
 SNMPSEC_CHECK int snmpsec_agent_take(snmpsec_agent *agent, uint64_t now, const uint8_t *datagram, size_t datagram_len);
 /* SNMPSEC_NOTHING_TAKEN: no message is kept. */
@@ -220,6 +225,32 @@ SNMPSEC_CHECK int snmpsec_agent_unhandled(snmpsec_agent *agent, snmpsec_unhandle
 SNMPSEC_CHECK int snmpsec_agent_refuse(snmpsec_agent *agent, uint64_t now, snmpsec_unhandled why, uint64_t salt);
 /* Counts what is kept in snmpSilentDrops: even its answer without bindings is too long (RFC 3416, section 4.2.1). */
 SNMPSEC_CHECK int snmpsec_agent_silent_drop(snmpsec_agent *agent);
+
+/* A message that was accepted, kept outside of its agent: any number may wait there for their Responses, which are written in any order, at any later
+ * moment. It takes some 350 octets of memory besides its text, and is freed before or after its agent. The text lies in memory as it was decrypted
+ * until then. */
+typedef struct snmpsec_kept snmpsec_kept;
+
+SNMPSEC_CALL void snmpsec_kept_free(snmpsec_kept *kept);
+/* Takes what is kept out of the agent, into *out: the agent keeps no message then, until the next _take. The message that is to be sent stays.
+ * SNMPSEC_NOTHING_TAKEN, SNMPSEC_OUT_OF_MEMORY: the agent keeps what it kept; *out is then null. */
+SNMPSEC_CHECK int snmpsec_agent_keep(snmpsec_agent *agent, snmpsec_kept **out);
+/* Puts it back, and frees it: the agent keeps it, instead of what it kept, as if it had been accepted last. So _access, _next, _unhandled and _refuse
+ * are asked of a message that waited. */
+SNMPSEC_CHECK int snmpsec_agent_restore(snmpsec_agent *agent, snmpsec_kept *kept);
+/* What it is: as snmpsec_agent_info, _part and _max_size, but that there is always a message. */
+SNMPSEC_CHECK int snmpsec_kept_info(snmpsec_kept *kept, snmpsec_info *out);
+SNMPSEC_CHECK int snmpsec_kept_part(snmpsec_kept *kept, snmpsec_part part, uint8_t *out, size_t out_len, size_t *written);
+SNMPSEC_CHECK int snmpsec_kept_max_size(snmpsec_kept *kept, uint32_t *out);
+/* Writes the Response to it, as the agent's message, just as snmpsec_agent_respond, _respond_within and _respond_front write that to what the agent
+ * keeps, at the moment `now` and with their answers. What the agent keeps stays, and so does this one. The agent may be another one than that which
+ * accepted it, as one that was made of a new configuration: the Response is sealed for the user that the agent has by this name, under its engine ID. */
+SNMPSEC_CHECK int snmpsec_kept_respond(snmpsec_kept *kept, snmpsec_agent *agent, uint64_t now, uint32_t error_status, uint32_t error_index,
+                                       const uint8_t *list, size_t list_len, uint64_t salt);
+SNMPSEC_CHECK int snmpsec_kept_respond_within(snmpsec_kept *kept, snmpsec_agent *agent, uint64_t now, uint32_t error_status, uint32_t error_index,
+                                              const uint8_t *list, size_t list_len, uint64_t salt, uint32_t limit);
+SNMPSEC_CHECK int snmpsec_kept_respond_front(snmpsec_kept *kept, snmpsec_agent *agent, uint64_t now, uint32_t error_status, uint32_t error_index,
+                                             const uint8_t *list, size_t list_len, uint64_t salt, uint32_t limit, size_t *count);
 
 /* What becomes of a variable (RFC 3413, section 3.2): it is answered; the error-status 6 or 16; its value is noSuchObject; a walk goes on behind
  * it; or the message is refused for SNMPSEC_UNKNOWN_CONTEXTS. */

@@ -45,6 +45,12 @@ void snmpsec_agent_free(snmpsec_agent *agent) {
     if (agent) snmpsec_inside_free_handle(agent, proved_agent_clear);
 }
 
+int snmpsec_agent_reconfigure(snmpsec_agent *agent, const uint8_t *config, size_t config_len) {
+    if (!agent) return SNMPSEC_BAD_ARGUMENT;
+    if (snmpsec_inside_is_deep(config, config_len)) return SNMPSEC_BAD_CONFIGURATION;
+    return done_deep(proved_agent_reconfigure(agent, in(config, config_len), config_len));
+}
+
 int snmpsec_agent_take(snmpsec_agent *agent, uint64_t now, const uint8_t *datagram, size_t datagram_len) {
     return agent ? done(proved_agent_take(agent, now, in(datagram, datagram_len), datagram_len)) : SNMPSEC_BAD_ARGUMENT;
 }
@@ -138,6 +144,60 @@ int snmpsec_agent_refuse(snmpsec_agent *agent, uint64_t now, snmpsec_unhandled w
 }
 
 int snmpsec_agent_silent_drop(snmpsec_agent *agent) { return agent ? proved_agent_silent_drop(agent) : SNMPSEC_BAD_ARGUMENT; }
+
+void snmpsec_kept_free(snmpsec_kept *kept) {
+    if (kept) snmpsec_inside_free_handle(kept, proved_kept_clear);
+}
+
+int snmpsec_agent_keep(snmpsec_agent *agent, snmpsec_kept **out) {
+    void *kept = NULL;
+    if (!out) return SNMPSEC_BAD_ARGUMENT;
+    *out = NULL;
+    if (!agent) return SNMPSEC_BAD_ARGUMENT;
+    int answer = proved_kept_new(&kept);
+    if (answer) return answer;
+    answer = proved_agent_keep(agent, kept);
+    if (answer) snmpsec_kept_free(kept);
+    else *out = kept;
+    return answer;
+}
+
+int snmpsec_agent_restore(snmpsec_agent *agent, snmpsec_kept *kept) {
+    if (!agent || !kept) return SNMPSEC_BAD_ARGUMENT;
+    int answer = proved_agent_restore(agent, kept);
+    if (!answer) snmpsec_kept_free(kept);
+    return answer;
+}
+
+int snmpsec_kept_info(snmpsec_kept *kept, snmpsec_info *out) {
+    return kept && out ? proved_kept_numbers(kept, (int32_t *)out, 6) : SNMPSEC_BAD_ARGUMENT;
+}
+
+int snmpsec_kept_part(snmpsec_kept *kept, snmpsec_part part, uint8_t *out, size_t out_len, size_t *written) {
+    return kept && written ? proved_kept_part(kept, part, room(out, out_len), out_len, written) : SNMPSEC_BAD_ARGUMENT;
+}
+
+int snmpsec_kept_max_size(snmpsec_kept *kept, uint32_t *out) {
+    return kept && out ? told_size(proved_kept_max_size(kept), out) : SNMPSEC_BAD_ARGUMENT;
+}
+
+int snmpsec_kept_respond(snmpsec_kept *kept, snmpsec_agent *agent, uint64_t now, uint32_t error_status, uint32_t error_index, const uint8_t *list,
+                         size_t list_len, uint64_t salt) {
+    if (!kept || !agent) return SNMPSEC_BAD_ARGUMENT;
+    return done(proved_kept_respond(agent, kept, now, error_status, error_index, in(list, list_len), list_len, salt));
+}
+
+int snmpsec_kept_respond_within(snmpsec_kept *kept, snmpsec_agent *agent, uint64_t now, uint32_t error_status, uint32_t error_index,
+                                const uint8_t *list, size_t list_len, uint64_t salt, uint32_t limit) {
+    if (!kept || !agent) return SNMPSEC_BAD_ARGUMENT;
+    return done(proved_kept_respond_within(agent, kept, now, error_status, error_index, in(list, list_len), list_len, salt, limit));
+}
+
+int snmpsec_kept_respond_front(snmpsec_kept *kept, snmpsec_agent *agent, uint64_t now, uint32_t error_status, uint32_t error_index,
+                               const uint8_t *list, size_t list_len, uint64_t salt, uint32_t limit, size_t *count) {
+    if (!kept || !agent || !count) return SNMPSEC_BAD_ARGUMENT;
+    return done(proved_kept_respond_front(agent, kept, now, error_status, error_index, in(list, list_len), list_len, salt, limit, count));
+}
 
 int snmpsec_status_of(snmpsec_access access, snmpsec_pdu pdu, snmpsec_status *out) {
     if (!out) return SNMPSEC_BAD_ARGUMENT;

@@ -119,6 +119,10 @@ static void answer(void) {
     must(!whole || whole == SNMPSEC_TOO_LARGE);
     must(!snmpsec_agent_respond_front(agent, NOW, 0, 0, list, list_len, 1, 484, &count));
     must(!snmpsec_agent_message(agent, out, sizeof out, &len) && len <= 484);
+    snmpsec_kept *kept;
+    must(!snmpsec_agent_keep(agent, &kept));
+    must(snmpsec_kept_respond(kept, agent, NOW, 0, 0, list, list_len, 1) == whole);
+    must(!snmpsec_agent_restore(agent, kept));
 }
 
 static void agent_takes(const uint8_t *octets, size_t len, bool is_signed) {

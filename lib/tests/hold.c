@@ -62,6 +62,8 @@ int main(int argc, char **argv) {
     if (config_len < 0) return 2;
     close(file);
     must(snmpsec_agent_new(config, (size_t)config_len, engine, engine_len, 5, NOW - 100, &agent), 0, "agent");
+    /* the keys of before are wiped */
+    must(snmpsec_agent_reconfigure(agent, config, (size_t)config_len), 0, "reconfigure");
     must(snmpsec_manager_new(config, (size_t)config_len, (const uint8_t *)SNMPSEC_NO_CLOCKS, strlen(SNMPSEC_NO_CLOCKS), NOW, &manager), 0, "manager");
     snmpsec_wipe(config, 65536);
     wait_for_look("made\n");

@@ -22,7 +22,7 @@ test_memory() {
     "$OUT/stack" "$replay/config.toml" > "$work/stack.out" 2>&1
     check "the stack of each call is less than what is wiped" 0 $?
     grep FAILED "$work/stack.out"
-    echo "stack: the deepest $(grep -v -e _new -e config_fault "$work/stack.out" | grep -o '[0-9]* octets' | sort -n | tail -1), while a configuration is read $(grep -e _new -e config_fault "$work/stack.out" | grep -o '[0-9]* octets' | sort -n | tail -1)"
+    echo "stack: the deepest $(grep -v -e _new -e config_fault -e reconfigure "$work/stack.out" | grep -o '[0-9]* octets' | sort -n | tail -1), while a configuration is read $(grep -e _new -e config_fault -e reconfigure "$work/stack.out" | grep -o '[0-9]* octets' | sort -n | tail -1)"
     if ! command -v python3 > /dev/null; then echo "skipped: looks for keys in memory: there is no python3"; return; fi
     core=()
     if ! command -v gcore > /dev/null; then

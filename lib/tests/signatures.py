@@ -42,6 +42,11 @@ def handle_of(name):
     return f"snmpsec_{name.split('_')[0]} *"
 
 
+def other_of(name):
+    """The handle of another kind that a call takes or writes: a message that is kept, or its agent."""
+    return "snmpsec_kept *" if name.startswith("agent_") else "snmpsec_agent *"
+
+
 # ---- Python
 
 PYTHON_TYPES = {None: "void", ctypes.c_bool: "bool", ctypes.c_int: "int", ctypes.c_uint: "uint32_t", ctypes.c_uint8: "uint8_t", ctypes.c_uint64: "uint64_t",
@@ -56,7 +61,8 @@ PYTHON_NAMES = {"ALLOWED": "ACCESS_ALLOWED", "GET": "GET_REQUEST", "GET_NEXT": "
 
 def python_signatures():
     for name, (result, arguments) in _library.SIGNATURES.items():
-        of = {**PYTHON_TYPES, ctypes.c_void_p: handle_of(name), ctypes.POINTER(ctypes.c_void_p): handle_of(name) + "*"}
+        of = {**PYTHON_TYPES, ctypes.c_void_p: handle_of(name), ctypes.POINTER(ctypes.c_void_p): handle_of(name) + "*",
+              _library.Other: other_of(name), ctypes.POINTER(_library.Other): other_of(name) + "*"}
         yield declared(name, "const char *" if result is ctypes.c_char_p else of[result], [of[one] for one in arguments])
 
 
@@ -97,10 +103,11 @@ def of_rust(kind, name):
     kind = re.sub(r"<[^>]*>", "", kind).strip()
     if kind.startswith("*mut "):
         inner = of_rust(kind[5:], name)
-        return inner if kind == "*mut Opaque" else f"{inner} *"
+        return inner if kind in ("*mut Opaque", "*mut Other") else f"{inner} *"
     if kind.startswith("*const "):
         return f"const {of_rust(kind[7:], name)} *"
-    return handle_of(name) if kind == "Opaque" else RUST_TYPES[kind]
+    handles = {"Opaque": handle_of, "Other": other_of}
+    return handles[kind](name) if kind in handles else RUST_TYPES[kind]
 
 
 def rust_signatures():

@@ -75,6 +75,7 @@ static uint32_t id;
 static snmpsec_level level = SNMPSEC_AUTH_PRIV;
 static const char *user = "bob";
 static void agent_new(void) { answer = snmpsec_agent_new(config, config_len, engine, sizeof engine, 5, NOW - 100, &agent); }
+static void reconfigure(void) { answer = snmpsec_agent_reconfigure(agent, config, config_len); }
 static void manager_new(void) { answer = snmpsec_manager_new(config, config_len, (const uint8_t *)SNMPSEC_NO_CLOCKS, strlen(SNMPSEC_NO_CLOCKS), NOW, &manager); }
 static uint64_t token;
 static snmpsec_request asked(void) {
@@ -98,6 +99,10 @@ static void answered(void) {
 static void give_up(void) { answer = snmpsec_manager_give_up(manager, token); }
 static void agent_take(void) { answer = snmpsec_agent_take(agent, NOW, message, len); }
 static void respond(void) { answer = snmpsec_agent_respond(agent, NOW, 0, 0, list, list_len, id); }
+static snmpsec_kept *kept;
+static void agent_keep(void) { answer = snmpsec_agent_keep(agent, &kept); }
+static void kept_respond(void) { answer = snmpsec_kept_respond(kept, agent, NOW, 0, 0, list, list_len, id); }
+static void kept_free(void) { snmpsec_kept_free(kept); answer = 0; }
 static void manager_take(void) { answer = snmpsec_manager_take(manager, NOW, message, len); }
 static void agent_free(void) { snmpsec_agent_free(agent); answer = 0; }
 static void manager_free(void) { snmpsec_manager_free(manager); answer = 0; }
@@ -218,6 +223,7 @@ int main(int argc, char **argv) {
     fclose(file);
     nested_configurations();
     measure("agent_new", agent_new, SNMPSEC_DEEP_STACK);
+    measure("agent_reconfigure", reconfigure, SNMPSEC_DEEP_STACK);
     measure("manager_new", manager_new, SNMPSEC_DEEP_STACK);
     for (uint32_t i = 0; i < 1500; i++) {
         uint32_t arcs[] = {1, 3, 6, 1, 2, 1, 1, 1, i};
@@ -233,7 +239,12 @@ int main(int argc, char **argv) {
         measure("ask", ask, SNMPSEC_STACK);
         if (snmpsec_manager_message(manager, message, sizeof message, &len)) return 1;
         measure("agent_take", agent_take, SNMPSEC_STACK);
-        if (!answer) measure("respond", respond, SNMPSEC_STACK);
+        if (!answer) {
+            measure("respond", respond, SNMPSEC_STACK);
+            measure("agent_keep", agent_keep, SNMPSEC_STACK);
+            measure("kept_respond", kept_respond, SNMPSEC_STACK);
+            measure("kept_free", kept_free, SNMPSEC_FREE_STACK);
+        }
         if (snmpsec_agent_message(agent, message, sizeof message, &len)) return 1;
         measure("manager_take", manager_take, SNMPSEC_STACK);
         measure("answered", answered, SNMPSEC_STACK);

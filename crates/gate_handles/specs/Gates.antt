@@ -9,7 +9,6 @@
 -- there was no memory. `Empties`: all is given back.
 use Rattle.std.specs.Prelude.{◌≡◌, ◌<◌, ◌≤◌, ◌⊎◌, ⊤, ℕ, List, [], map, Option, Some, None, option_map, Result, Ok, Err}
 use Rattle.std.specs.Prelude.{replicate, string_bytes}
-use Rattle.std.specs.Global.{Vec}
 use Rattle.engine_clock.specs.Pairs.{pair_max}
 use Rattle.usm_users.specs.User.{User}
 use Rattle.usm_users.specs.declared.load.UserRow.{UserRow}
@@ -18,7 +17,7 @@ use Rattle.vacm_core.specs.declared.rows.AccessRow.{AccessRow}
 use Rattle.snmp_message.specs.declared.refusal.Refusal.TheVariants.{OutOfMemory}
 use Rattle.snmp_agent.specs.Agent.{AgentState}
 use Rattle.snmp_gate.specs.History.{Happening}
-use Rattle.snmp_gate.specs.Waiting.{GateStands, IsAsBefore, ClientHappens, DeviceHappens, SendHappens}
+use Rattle.snmp_gate.specs.Waiting.{ClientHappens, DeviceHappens, Fresh, GateStands, IsAsBefore, SendHappens, fresh}
 use Rattle.snmp_gate.specs.declared.devices.Device.{Device}
 use Rattle.snmp_gate.specs.declared.limits.GateLimits.{GateLimits}
 use Rattle.snmp_gate.specs.declared.gate.Gate.{Gate}
@@ -223,15 +222,16 @@ TellsSent (out.GivenUp number to) told new = (told ≡ Ok event.GivenUp) × (new
     × IsQuiet new
 TellsSent out.Nothing told new = (told ≡ Ok event.Nothing) × IsQuiet new
 
-pub record Sends (old : GateHeld) (now : ℕ) (salt : List ℕ) (told : Result GateEvent CallFault) (new : GateHeld)
+pub record Sends (old : GateHeld) (now : ℕ) (f : Fresh) (told : Result GateEvent CallFault) (new : GateHeld)
     : Type 0 where
   pub sent : Sent
   pub tells : TellsSent sent told new
   pub happens : (since : ℕ) (before : List Happening) → since ≤ now → GateStands since before old.gate
-      → SendHappens old.gate now before salt sent new.gate
+      → SendHappens old.gate now before f sent new.gate
 
-abbrev pub SendsNext : GateHeld → ℕ → List ℕ → Result GateEvent CallFault → GateHeld → Type 0
-SendsNext old now salt told new = KeepsSaid old new × (Sends old now salt told new ⊎ RunsOut old now told new)
+abbrev pub SendsNext : GateHeld → ℕ → List ℕ → ℕ → Result GateEvent CallFault → GateHeld → Type 0
+SendsNext old now salt ask_id told new = KeepsSaid old new
+    × (Sends old now (fresh salt ask_id) told new ⊎ RunsOut old now told new)
 
 -- ---- giving back
 

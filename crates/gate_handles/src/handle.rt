@@ -326,7 +326,7 @@ impl GateHandle {
     /// Does the first thing that is due at this moment, in milliseconds, as `Gate::next` does, and leaves the
     /// datagram to be sent, if there is one. The error is out of memory: then the call may be made again.
     pub fn next(&mut self, now: u64, salt: u64, ask_id: u32) -> Result<GateEvent, CallFault>
-        ensures { SendsNext self.old now (to_be_bytes w64 salt) result self.new }
+        ensures { SendsNext self.old now (to_be_bytes w64 salt) ask_id result self.new }
     {
         self.message = None;
         self.client = None;

@@ -12,9 +12,8 @@ use Rattle.snmp_walk.specs.Front.{AreKnown, AreOverAt, IsCutRow, IsFront, IsOver
 use Rattle.snmp_walk.specs.declared.column.Progress.{Progress}
 use Rattle.snmp_walk.specs.declared.bulk_column.BulkColumn.{BulkColumn}
 use Rattle.gateway_laws.specs.Bulk.{AreFirstAnswers, IsFrontOfBulk, IsFrontOfRepetitions}
+use Rattle.gateway_laws.specs.BulkTracks.{AllBulkTrack, AreNexts, BulkColumnTracks}
 use Rattle.gateway_laws.specs.Device.{IsDevice}
-use Rattle.gateway_laws.proofs.BulkReads.{AllBulkTrack}
-use Rattle.gateway_laws.proofs.BulkTracks.{AreNexts, BulkColumnTracks}
 use Rattle.gateway_laws.specs.Tracks.{TracksWalk}
 
 -- the names before a repetition, of each column

@@ -1,5 +1,5 @@
 -- The columns of a GetBulkRequest, while answers are read.
-use Rattle.std.specs.Prelude.{◌≡◌, ◌<◌, ◌++◌, Bool, ℕ, zero, suc, List, [], ◌∷◌, All, length, set}
+use Rattle.std.specs.Prelude.{◌≡◌, ◌<◌, ◌++◌, Bool, ℕ, zero, suc, List, [], ◌∷◌, length, set}
 use Rattle.std.specs.List.{AllZip, HoldsAt}
 use Rattle.std.proofs.Common.{arith, subst, sym}
 use Rattle.std.proofs.lemmas.List.Elements.{All-cons, All-head, All-nil, All-tail}
@@ -14,8 +14,9 @@ use Rattle.snmp_walk.specs.declared.column.Progress.{Progress}
 use Rattle.snmp_walk.specs.declared.column.Progress.TheVariants.{Wanting, Asked, Given, Hidden, Ended}
 use Rattle.snmp_walk.specs.declared.bulk_column.BulkColumn.{BulkColumn}
 use Rattle.gateway_laws.specs.Bulk.{AreNamesAsked, IsTrueInTurn}
+use Rattle.gateway_laws.specs.BulkTracks.{AllBulkTrack, BulkColumnTracks}
 use Rattle.gateway_laws.specs.Device.{AllSeen, IsDevice}
-use Rattle.gateway_laws.proofs.BulkTracks.{BulkColumnTracks, TracksReading, begun_reading, one_read, settled_tracks}
+use Rattle.gateway_laws.proofs.BulkTracks.{TracksReading, begun_reading, one_read, settled_tracks}
 
 -- the name that was asked for a column, or none
 abbrev name_in : Progress → List ℕ
@@ -47,10 +48,7 @@ module _ (device : Known) (Seen : List ℕ → Type 0) where
   abbrev pub AllReading : List BulkColumn → List (List ℕ) → Type 0
   AllReading cs names = AllZip (TracksReading device Seen) cs names
 
-  abbrev pub AllBulkTrack : List BulkColumn → Type 0
-  AllBulkTrack cs = All (BulkColumnTracks device Seen) cs
-
-  all_begun : (olds news : List BulkColumn) (names : List (List ℕ)) → AllZip IsBegun olds news → AreNamesAsked olds names → AllBulkTrack olds → AllReading news names
+  all_begun : (olds news : List BulkColumn) (names : List (List ℕ)) → AllZip IsBegun olds news → AreNamesAsked olds names → AllBulkTrack device Seen olds → AllReading news names
   all_begun [] [] [] begun asked tracks = tt
   all_begun [] [] (name ∷ names) begun asked tracks = absurd asked
   all_begun [] (new ∷ news) names begun asked tracks = absurd begun
@@ -61,7 +59,7 @@ module _ (device : Known) (Seen : List ℕ → Type 0) where
     all_begun olds news names begun.1 asked.1 (All-tail (BulkColumnTracks device Seen) old olds tracks),
   )
 
-  all_settled : (olds news : List BulkColumn) (names : List (List ℕ)) → AllZip IsSettled olds news → AllReading olds names → AllBulkTrack news
+  all_settled : (olds news : List BulkColumn) (names : List (List ℕ)) → AllZip IsSettled olds news → AllReading olds names → AllBulkTrack device Seen news
   all_settled [] [] names settled reading = All-nil (BulkColumnTracks device Seen)
   all_settled [] (new ∷ news) names settled reading = absurd settled
   all_settled (old ∷ olds) [] names settled reading = absurd settled
@@ -87,7 +85,7 @@ module _ (device : Known) (Seen : List ℕ → Type 0) where
         reads_turns (set cs turn reads.1) (set names turn v.name) ts vs news reads.3 truly.1 (read_at cs names turn v reads.1 reads.0 reads.2 truly.0 all)
 
     pub read_tracks : (whole : Bool) (olds : List BulkColumn) (ts : List ℕ) (vs : List Variable) (news : List BulkColumn) → IsRead Seen whole olds ts vs news
-        → ((names : List (List ℕ)) → AreNamesAsked olds names → IsTrueInTurn device names ts vs) → AllBulkTrack olds → AllBulkTrack news
+        → ((names : List (List ℕ)) → AreNamesAsked olds names → IsTrueInTurn device names ts vs) → AllBulkTrack device Seen olds → AllBulkTrack device Seen news
     read_tracks whole olds ts vs news r truly tracks =
         let names = names_in olds in
         let begun = all_begun olds r.begun names r.begins (are_names_in olds) tracks in

@@ -1,5 +1,5 @@
 -- Whole dialogues for a GetBulkRequest with a device that answers as RFC 3416 says.
-use Rattle.std.specs.Prelude.{◌≡◌, ℕ, zero, suc, List, [], ◌∷◌, All, map, max, slice_index_or}
+use Rattle.std.specs.Prelude.{◌≡◌, ◌<◌, ℕ, zero, suc, List, [], ◌∷◌, All, map, max, slice_index_or}
 use Rattle.std.specs.List.{AllZip}
 use Rattle.std.proofs.Common.{ap, inl, inr, refl, subst, sym, ◌∙◌}
 use Rattle.snmp_msg.specs.Variables.{Variable, variables_of}
@@ -9,7 +9,7 @@ use Rattle.snmp_walk.specs.BulkAnswer.{AllSaySame}
 use Rattle.snmp_walk.specs.BulkAnswered.{IsBulkAnswered, is_next, turns_of}
 use Rattle.snmp_walk.specs.BulkAsk.{Chooses}
 use Rattle.snmp_walk.specs.BulkColumn.{IsNew, bulk_request}
-use Rattle.snmp_walk.specs.BulkDialogue.{BulkAllGoOn, IsBulkNext, SameLimits, bulk_requests, bulk_requests_of}
+use Rattle.snmp_walk.specs.BulkDialogue.{BulkAllGoOn, HasGathered, HasRepetition, IsBulkNext, IsEnough, SameLimits, bulk_requests, bulk_requests_of}
 use Rattle.snmp_walk.specs.BulkRun.{BulkStep, IsBulkRun, came, goes}
 use Rattle.snmp_walk.specs.BulkSteps.{BulkGoesOn, ColumnWaits, SaysSame}
 use Rattle.snmp_walk.specs.Front.{IsFront}
@@ -23,15 +23,17 @@ use Rattle.snmp_walk.proofs.BulkGoing.{StaysWaits, chooses_each}
 use Rattle.snmp_walk.proofs.BulkRuns.{bulk_run_requests}
 use Rattle.snmp_walk.proofs.Zipped.{zip_all}
 use Rattle.gateway_laws.specs.Bulk.{IsFrontOfBulk, IsTrueBulkAnswer, IsTrueBulkRun}
+use Rattle.gateway_laws.specs.BulkTracks.{AllBulkTrack, BulkColumnTracks}
 use Rattle.gateway_laws.specs.Device.{IsDevice}
 use Rattle.gateway_laws.proofs.BulkFronts.{front_of_bulk}
-use Rattle.gateway_laws.proofs.BulkReads.{AllBulkTrack, read_tracks}
-use Rattle.gateway_laws.proofs.BulkTracks.{BulkColumnTracks, goes_on_bulk, new_tracks, said_tracks, waits_tracks}
+use Rattle.gateway_laws.proofs.Repetitions.{all_want, enough_known}
+use Rattle.gateway_laws.proofs.BulkReads.{read_tracks}
+use Rattle.gateway_laws.proofs.BulkTracks.{goes_on_bulk, new_tracks, said_tracks, waits_tracks}
 
 -- what a dialogue is for
-record SameRequest (old new : BulkDialogue) : Type 0 where
-  non_repeaters : new.non_repeaters ≡ old.non_repeaters
-  max_repetitions : new.max_repetitions ≡ old.max_repetitions
+pub record SameRequest (old new : BulkDialogue) : Type 0 where
+  pub non_repeaters : new.non_repeaters ≡ old.non_repeaters
+  pub max_repetitions : new.max_repetitions ≡ old.max_repetitions
 
 limits_same : (old new : BulkDialogue) → SameLimits old new → SameRequest old new
 limits_same old new s = record { non_repeaters = s.non_repeaters; max_repetitions = s.max_repetitions }
@@ -42,12 +44,12 @@ itself old new same = record { non_repeaters = ap (λ (d : BulkDialogue). d.non_
 then_same : (a b c : BulkDialogue) → SameRequest a b → SameRequest b c → SameRequest a c
 then_same a b c f s = record { non_repeaters = s.non_repeaters ∙ f.non_repeaters; max_repetitions = s.max_repetitions ∙ f.max_repetitions }
 
-next_same : (Seen : List ℕ → Type 0) (old new : BulkDialogue) (becomes : BulkNext) → IsBulkNext Seen old new becomes → SameRequest old new
+pub next_same : (Seen : List ℕ → Type 0) (old new : BulkDialogue) (becomes : BulkNext) → IsBulkNext Seen old new becomes → SameRequest old new
 next_same Seen old new (next.Asks ask) is = limits_same old new is.0
 next_same Seen old new next.Ends is = limits_same old new is.0
 next_same Seen old new (next.RoundsUsedUp number) is = limits_same old new is.0
 
-answered_same : (Seen : List ℕ → Type 0) (answer : Pdu) (old new : BulkDialogue) (becomes : BulkAnswered) → IsBulkAnswered Seen answer old new becomes → SameRequest old new
+pub answered_same : (Seen : List ℕ → Type 0) (answer : Pdu) (old new : BulkDialogue) (becomes : BulkAnswered) → IsBulkAnswered Seen answer old new becomes → SameRequest old new
 answered_same Seen answer old new answered.Taken is = limits_same old new is.3
 answered_same Seen answer old new (answered.Unfit fault) is = limits_same old new is.3.limits
 answered_same Seen answer old new answered.Less is = record { non_repeaters = is.1.first; max_repetitions = is.1.most }
@@ -55,6 +57,24 @@ answered_same Seen answer old new answered.Front is = itself old new is.1.2
 answered_same Seen answer old new answered.TooBig is = itself old new is.1.2
 answered_same Seen answer old new (answered.Ended number) is = limits_same old new is.3
 answered_same Seen answer old new (answered.Failed column) is = itself old new is.4
+
+-- the names that the columns are for
+firsts : (cs : List BulkColumn) → map (λ (c : BulkColumn). c.first) cs ≡ map (λ (request : List ℕ × ℕ). request.0) (map bulk_request cs)
+firsts [] = refl
+firsts (c ∷ cs) = ap (λ (names : List (List ℕ)). c.first ∷ names) (firsts cs)
+
+wanted_names : (most : ℕ) (vs : List Variable) → map (λ (request : List ℕ × ℕ). request.0) (map (λ (v : Variable). (v.name, most)) vs) ≡ map (λ (v : Variable). v.name) vs
+wanted_names most [] = refl
+wanted_names most (v ∷ vs) = ap (λ (names : List (List ℕ)). v.name ∷ names) (wanted_names most vs)
+
+asked_names : (n most : ℕ) (vs : List Variable) → map (λ (request : List ℕ × ℕ). request.0) (bulk_requests_of n most vs) ≡ map (λ (v : Variable). v.name) vs
+asked_names zero most [] = refl
+asked_names zero most (v ∷ vs) = wanted_names most (v ∷ vs)
+asked_names (suc n) most [] = refl
+asked_names (suc n) most (v ∷ vs) = ap (λ (names : List (List ℕ)). v.name ∷ names) (asked_names n most vs)
+
+pub column_names : (n most : ℕ) (asked : List Variable) (cs : List BulkColumn) → map bulk_request cs ≡ bulk_requests_of n most asked → map (λ (c : BulkColumn). c.first) cs ≡ map (λ (v : Variable). v.name) asked
+column_names n most asked cs same = firsts cs ∙ ap (map (λ (request : List ℕ × ℕ). request.0)) same ∙ asked_names n most asked
 
 module _ (device : Known) (Seen : List ℕ → Type 0) where
   -- such a dialogue is a dialogue
@@ -67,10 +87,10 @@ module _ (device : Known) (Seen : List ℕ → Type 0) where
   run_same told (goes becomes ∷ steps) first last run = then_same first run.1 last (next_same Seen first run.1 becomes run.2) (run_same told steps run.1 last run.3)
   run_same told (came answer becomes ∷ steps) first last run = then_same first run.1 last (answered_same Seen answer first run.1 becomes run.2.0) (run_same told steps run.1 last run.3)
 
-  all_new : (cs : List BulkColumn) → All IsNew cs → AllBulkTrack device Seen cs
+  pub all_new : (cs : List BulkColumn) → All IsNew cs → AllBulkTrack device Seen cs
   all_new cs all k d below = new_tracks device Seen (slice_index_or cs k d) (all k d below)
 
-  all_say : (olds news : List BulkColumn) → AllSaySame olds news → AllBulkTrack device Seen olds → AllBulkTrack device Seen news
+  pub all_say : (olds news : List BulkColumn) → AllSaySame olds news → AllBulkTrack device Seen olds → AllBulkTrack device Seen news
   all_say olds news same tracks = zip_all SaysSame (BulkColumnTracks device Seen) (BulkColumnTracks device Seen) (said_tracks device Seen) olds news same tracks
 
   all_wait : (olds news : List BulkColumn) → AllZip ColumnWaits olds news → AllBulkTrack device Seen olds → AllBulkTrack device Seen news
@@ -88,7 +108,7 @@ module _ (device : Known) (Seen : List ℕ → Type 0) where
     all_go_on : (olds news : List BulkColumn) → BulkAllGoOn Seen olds news → AllBulkTrack device Seen olds → AllBulkTrack device Seen news
     all_go_on olds news going tracks = zip_all (BulkGoesOn Seen) (BulkColumnTracks device Seen) (BulkColumnTracks device Seen) (goes_on_bulk device Seen is) olds news going tracks
 
-    goes_tracks : (old new : BulkDialogue) (becomes : BulkNext) → IsBulkNext Seen old new becomes → AllBulkTrack device Seen old.columns.items → AllBulkTrack device Seen new.columns.items
+    pub goes_tracks : (old new : BulkDialogue) (becomes : BulkNext) → IsBulkNext Seen old new becomes → AllBulkTrack device Seen old.columns.items → AllBulkTrack device Seen new.columns.items
     goes_tracks old new (next.Asks ask) step tracks =
         let more = step.1 in
         let chosen = more.chosen in
@@ -96,7 +116,7 @@ module _ (device : Known) (Seen : List ℕ → Type 0) where
     goes_tracks old new next.Ends step tracks = all_go_on old.columns.items new.columns.items step.1 tracks
     goes_tracks old new (next.RoundsUsedUp number) step tracks = all_go_on old.columns.items new.columns.items step.1 tracks
 
-    came_tracks : (old new : BulkDialogue) (answer : Pdu) (becomes : BulkAnswered) → IsTrueBulkAnswer device old answer → IsBulkAnswered Seen answer old new becomes
+    pub came_tracks : (old new : BulkDialogue) (answer : Pdu) (becomes : BulkAnswered) → IsTrueBulkAnswer device old answer → IsBulkAnswered Seen answer old new becomes
         → AllBulkTrack device Seen old.columns.items → AllBulkTrack device Seen new.columns.items
     came_tracks old new answer answered.Taken truly step tracks =
         read_tracks device Seen is (is_next old.ask) old.columns.items (turns_of old) (variables_of answer.list.now) new.columns.items step.2 (truly.bindings step.0) tracks
@@ -113,20 +133,13 @@ module _ (device : Known) (Seen : List ℕ → Type 0) where
     run_tracks told (goes becomes ∷ steps) first last run tracks = run_tracks told steps run.1 last run.3 (goes_tracks first run.1 becomes run.2 tracks)
     run_tracks told (came answer becomes ∷ steps) first last run tracks = run_tracks told steps run.1 last run.3 (came_tracks first run.1 answer becomes run.0 run.2.0 tracks)
 
-    -- the names that the columns are for
-    firsts : (cs : List BulkColumn) → map (λ (c : BulkColumn). c.first) cs ≡ map (λ (request : List ℕ × ℕ). request.0) (map bulk_request cs)
-    firsts [] = refl
-    firsts (c ∷ cs) = ap (λ (names : List (List ℕ)). c.first ∷ names) (firsts cs)
-
-    wanted_names : (most : ℕ) (vs : List Variable) → map (λ (request : List ℕ × ℕ). request.0) (map (λ (v : Variable). (v.name, most)) vs) ≡ map (λ (v : Variable). v.name) vs
-    wanted_names most [] = refl
-    wanted_names most (v ∷ vs) = ap (λ (names : List (List ℕ)). v.name ∷ names) (wanted_names most vs)
-
-    asked_names : (n most : ℕ) (vs : List Variable) → map (λ (request : List ℕ × ℕ). request.0) (bulk_requests_of n most vs) ≡ map (λ (v : Variable). v.name) vs
-    asked_names zero most [] = refl
-    asked_names zero most (v ∷ vs) = wanted_names most (v ∷ vs)
-    asked_names (suc n) most [] = refl
-    asked_names (suc n) most (v ∷ vs) = ap (λ (names : List (List ℕ)). v.name ∷ names) (asked_names n most vs)
+    -- a dialogue that has enough has a repetition, if one is asked
+    pub run_enough : (told asked : List Variable) (steps : List BulkStep) (first last : BulkDialogue) → All IsNew first.columns.items → bulk_requests first ≡ bulk_requests_of first.non_repeaters first.max_repetitions asked
+        → 0 < first.max_repetitions → IsTrueBulkRun device Seen told first steps last → IsEnough last → ¬ HasGathered last.gathered last.columns.items → HasRepetition last.columns.items
+    run_enough told asked steps first last begin same some run enough not_gathered =
+        let tracks = run_tracks told steps first last run (all_new first.columns.items begin) in
+        let requests = bulk_run_requests Seen told steps first last (plain_run told steps first last run) ∙ same in
+        enough_known device Seen last tracks (all_want first.non_repeaters first.max_repetitions asked last.columns.items some requests) enough not_gathered
 
     pub run_front : (told asked : List Variable) (steps : List BulkStep) (first last : BulkDialogue) (vs : List Variable) → All IsNew first.columns.items
         → bulk_requests first ≡ bulk_requests_of first.non_repeaters first.max_repetitions asked → IsTrueBulkRun device Seen told first steps last
@@ -135,7 +148,7 @@ module _ (device : Known) (Seen : List ℕ → Type 0) where
     run_front told asked steps first last vs begin same run front =
         let tracks = run_tracks told steps first last run (all_new first.columns.items begin) in
         let requests = bulk_run_requests Seen told steps first last (plain_run told steps first last run) ∙ same in
-        let names = firsts last.columns.items ∙ ap (map (λ (request : List ℕ × ℕ). request.0)) requests ∙ asked_names first.non_repeaters first.max_repetitions asked in
+        let names = column_names first.non_repeaters first.max_repetitions asked last.columns.items requests in
         let limits = run_same told steps first last run in
         subst (λ (n : ℕ). IsFrontOfBulk device Seen (map (λ (v : Variable). v.name) asked) n first.max_repetitions vs) limits.non_repeaters
         (subst (λ (n : ℕ). IsFrontOfBulk device Seen (map (λ (v : Variable). v.name) asked) last.non_repeaters n vs) limits.max_repetitions

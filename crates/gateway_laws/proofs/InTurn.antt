@@ -1,5 +1,5 @@
 -- What RFC 3416 says of a GetBulkRequest is true in turn: repetition by repetition, each column goes on from the name that it gave.
-use Rattle.std.specs.Prelude.{◌≡◌, ◌≢◌, ◌<◌, ◌++◌, ⊤, ℕ, zero, suc, List, [], ◌∷◌, All, AllPairs, drop, length, map, set, slice_index_or, take}
+use Rattle.std.specs.Prelude.{◌≡◌, ◌≢◌, ◌<◌, ◌≤◌, ◌++◌, ⊤, ℕ, zero, suc, List, [], ◌∷◌, All, AllPairs, drop, length, map, set, slice_index_or, take}
 use Rattle.std.proofs.Common.{ap, arith, inl, inr, refl, subst, sym, ◌∙◌}
 use Rattle.std.proofs.lemmas.List.Elements.{All-cons, All-head, All-nil, All-tail}
 use Rattle.std.proofs.lemmas.List.{get_or-set_other, get_or-set_same, get_or_default, length-set}
@@ -12,25 +12,25 @@ use Rattle.gateway_laws.specs.Bulk.{IsTrueInTurn}
 use Rattle.gateway_laws.specs.Device.{AllSeen}
 
 -- the name of a column
-abbrev name_at : List (List ℕ) → ℕ → List ℕ
+abbrev pub name_at : List (List ℕ) → ℕ → List ℕ
 name_at names column = slice_index_or names column []
 
-abbrev names_at : List (List ℕ) → List ℕ → List (List ℕ)
+abbrev pub names_at : List (List ℕ) → List ℕ → List (List ℕ)
 names_at names columns = map (λ (column : ℕ). name_at names column) columns
 
 abbrev names_of : List Variable → List (List ℕ)
 names_of vs = map (λ (v : Variable). v.name) vs
 
 -- these columns, each of which has a name
-abbrev AreWithin : List (List ℕ) → List ℕ → Type 0
+abbrev pub AreWithin : List (List ℕ) → List ℕ → Type 0
 AreWithin names columns = All (λ (column : ℕ). column < length names) columns
 
 -- the column is none of them
-abbrev IsOther : ℕ → List ℕ → Type 0
+abbrev pub IsOther : ℕ → List ℕ → Type 0
 IsOther column columns = All (λ (other : ℕ). column ≢ other) columns
 
 -- the names by column, after these columns gave these variables
-abbrev gave : List (List ℕ) → List ℕ → List Variable → List (List ℕ)
+abbrev pub gave : List (List ℕ) → List ℕ → List Variable → List (List ℕ)
 gave names [] vs = names
 gave names (column ∷ columns) [] = names
 gave names (column ∷ columns) (v ∷ vs) = gave (set names column v.name) columns vs
@@ -45,7 +45,7 @@ others_same names column name (c ∷ cs) other =
     λ i. get_or-set_other names column c name [] (λ same. first (sym same)) i ∷ others_same names column name cs (All-tail (λ (o : ℕ). column ≢ o) c cs other) i
 
 -- columns of different numbers
-abbrev Differ : List ℕ → Type 0
+abbrev pub Differ : List ℕ → Type 0
 Differ [] = ⊤
 Differ (column ∷ columns) = IsOther column columns × Differ columns
 
@@ -109,7 +109,7 @@ module _ (device : Known) where
       let rest = gave_at now ts vs asked (omega (arith, long)) (within_set names t v.name ts (All-tail (λ (c : ℕ). c < length names) t ts within)) differ.1 answers.1 in
       λ i. here i ∷ rest i
 
-  row_true : (names : List (List ℕ)) (ts more : List ℕ) (row rest : List Variable) → AreWithin names ts → Differ ts → AreNextAnswers device AllSeen (names_at names ts) row → IsTrueInTurn device (gave names ts row) more rest
+  pub row_true : (names : List (List ℕ)) (ts more : List ℕ) (row rest : List Variable) → AreWithin names ts → Differ ts → AreNextAnswers device AllSeen (names_at names ts) row → IsTrueInTurn device (gave names ts row) more rest
       → IsTrueInTurn device names (ts ++ more) (row ++ rest)
   row_true names [] more [] rest within differ answers later = later
   row_true names [] more (v ∷ vs) rest within differ answers later = absurd answers
@@ -126,12 +126,15 @@ module _ (device : Known) where
   names_long names [] = refl
   names_long names (c ∷ cs) = ap suc (names_long names cs)
 
-  repetitions_true : (n : ℕ) (names : List (List ℕ)) (again : List ℕ) (vs : List Variable) → AreWithin names again → Differ again → AreRepetitions device AllSeen n (names_at names again) vs → IsTrueInTurn device names (repeated n again) vs
-  repetitions_true zero names again vs within differ none = subst (IsTrueInTurn device names []) (sym none) tt
-  repetitions_true (suc n) names again vs within differ (row, rest, is, answers, more) =
-      subst (IsTrueInTurn device names (again ++ repeated n again)) (sym is) (row_true names again (repeated n again) row rest within differ answers (elim more [
-        | inl over ↦ subst (IsTrueInTurn device (gave names again row) (repeated n again)) (sym over.1) tt
-        | inr further ↦ repetitions_true n (gave names again row) again rest (within_gave names again row again within) differ
+  -- so many repetitions, of as many that were asked or more
+  repetitions_true : (n most : ℕ) (names : List (List ℕ)) (again : List ℕ) (vs : List Variable) → n ≤ most → AreWithin names again → Differ again → AreRepetitions device AllSeen n (names_at names again) vs
+      → IsTrueInTurn device names (repeated most again) vs
+  repetitions_true zero most names again vs few within differ none = subst (IsTrueInTurn device names (repeated most again)) (sym none) tt
+  repetitions_true (suc n) zero names again vs few within differ all = absurd (omega (arith, few))
+  repetitions_true (suc n) (suc most) names again vs few within differ (row, rest, is, answers, more) =
+      subst (IsTrueInTurn device names (again ++ repeated most again)) (sym is) (row_true names again (repeated most again) row rest within differ answers (elim more [
+        | inl over ↦ subst (IsTrueInTurn device (gave names again row) (repeated most again)) (sym over.1) tt
+        | inr further ↦ repetitions_true n most (gave names again row) again rest (omega (arith, few)) (within_gave names again row again within) differ
             (subst (λ (asked : List (List ℕ)). AreRepetitions device AllSeen n asked rest) (sym (gave_at names again row (names_at names again) (names_long names again) within differ answers)) further.1)
       ]))
 
@@ -153,13 +156,17 @@ module _ (device : Known) where
       let rest = within_split names cs again (All-tail (λ (x : ℕ). x < length names) c (cs ++ again) all) in
       (All-cons (λ (x : ℕ). x < length names) c cs (All-head (λ (x : ℕ). x < length names) c (cs ++ again) all) rest.0, rest.1)
 
-  pub bulk_true : (names : List (List ℕ)) (single again : List ℕ) (most : ℕ) (whole vs rest : List Variable) → AreWithin names (single ++ again) → AllPairs (λ (a b : ℕ). a ≢ b) (single ++ again)
-      → IsBulk device AllSeen (map (λ (column : ℕ). slice_index_or names column []) (single ++ again)) (length single) most whole → whole ≡ vs ++ rest → IsTrueInTurn device names (single ++ repeated most again) vs
-  bulk_true names single again most whole vs rest within pairs bulk is =
+  pub bulk_in_turn : (names : List (List ℕ)) (single again : List ℕ) (n most : ℕ) (whole vs rest : List Variable) → n ≤ most → AreWithin names (single ++ again) → Differ (single ++ again)
+      → IsBulk device AllSeen (map (λ (column : ℕ). slice_index_or names column []) (single ++ again)) (length single) n whole → whole ≡ vs ++ rest → IsTrueInTurn device names (single ++ repeated most again) vs
+  bulk_in_turn names single again n most whole vs rest few within differs bulk is =
       let inside = within_split names single again within in
-      let differ = differ_split single again (differ_all (single ++ again) pairs) in
+      let differ = differ_split single again differs in
       let answers = subst (λ (asked : List (List ℕ)). AreNextAnswers device AllSeen asked bulk.single) (take_names names single again) bulk.are_single in
-      let repetitions = subst (λ (asked : List (List ℕ)). AreRepetitions device AllSeen most asked bulk.repeated) (drop_names names single again ∙ sym (gave_others names single bulk.single again differ.1)) bulk.are_repeated in
-      let later = repetitions_true most (gave names single bulk.single) again bulk.repeated (within_gave names single bulk.single again inside.1) differ.2 repetitions in
+      let repetitions = subst (λ (asked : List (List ℕ)). AreRepetitions device AllSeen n asked bulk.repeated) (drop_names names single again ∙ sym (gave_others names single bulk.single again differ.1)) bulk.are_repeated in
+      let later = repetitions_true n most (gave names single bulk.single) again bulk.repeated few (within_gave names single bulk.single again inside.1) differ.2 repetitions in
       front_true device names (single ++ repeated most again) vs rest
       (subst (IsTrueInTurn device names (single ++ repeated most again)) (sym bulk.joined ∙ is) (row_true names single (repeated most again) bulk.single bulk.repeated inside.0 differ.0 answers later))
+
+  pub bulk_true : (names : List (List ℕ)) (single again : List ℕ) (most : ℕ) (whole vs rest : List Variable) → AreWithin names (single ++ again) → AllPairs (λ (a b : ℕ). a ≢ b) (single ++ again)
+      → IsBulk device AllSeen (map (λ (column : ℕ). slice_index_or names column []) (single ++ again)) (length single) most whole → whole ≡ vs ++ rest → IsTrueInTurn device names (single ++ repeated most again) vs
+  bulk_true names single again most whole vs rest within pairs bulk is = bulk_in_turn names single again most most whole vs rest (omega arith) within (differ_all (single ++ again) pairs) bulk is

@@ -5,6 +5,9 @@ mod Taken
 mod Alike
 mod BulkTracks
 mod BulkReads
-mod BulkFronts
-mod BulkTrueRuns
+pub mod BulkFronts
+pub mod BulkTrueRuns
 mod InTurn
+pub mod BulkAsked
+pub mod FrontsTaken
+mod Repetitions

@@ -8,7 +8,7 @@ use Rattle.snmp_msg.specs.declared.pdu.Pdu.{Pdu}
 use Rattle.snmp_msg.specs.declared.value.Syntax.{Syntax}
 use Rattle.snmp_msg.specs.declared.value.Syntax.TheVariants.{EndOfMibView, NoSuchInstance, NoSuchObject}
 use Rattle.snmp_responder.specs.Instrumentation.{IsException, Known}
-use Rattle.snmp_walk.specs.Answer.{IsAnswered}
+use Rattle.snmp_walk.specs.Answer.{IsAnswered, IsNoError}
 use Rattle.snmp_walk.specs.Bindings.{FitsPlace, IsReply, Misfits}
 use Rattle.snmp_walk.specs.Dialogue.{Answers, AnswersAll, IsFault, asks_of}
 use Rattle.snmp_walk.specs.declared.answer.AnswerFault.{AnswerFault}
@@ -84,9 +84,9 @@ module _ (device : Known) (is : IsDevice device) where
       let split = subst (λ (those : List (ReadOperation × List ℕ)). AnswersAll those (f.before ++ f.variable ∷ f.after)) f.asks_are (subst (AnswersAll asks) f.are all) in
       not_both f.ask.0 f.ask.1 f.variable misfit (answers_there f.asks_before f.ask f.asks_after f.before f.variable f.after f.answered split) f.misfits
 
-  pub is_taken : (Seen : List ℕ → Type 0) (old new : Dialogue) (answer : Pdu) (becomes : Answered) → IsTrueAnswer device (asks_of old.columns.items) answer → IsAnswered Seen answer old new becomes → becomes ≡ answered.Taken
-  is_taken Seen old new answer answered.Taken truly step = refl
-  is_taken Seen old new answer (answered.Unfit fault) truly step =
-      absurd (no_fault (asks_of old.columns.items) (variables_of answer.list.now) fault (all_fit (asks_of old.columns.items) (variables_of answer.list.now) truly.answered) step.1)
-  is_taken Seen old new answer (answered.Ended number) truly step = absurd (step.0 truly.no_error)
-  is_taken Seen old new answer (answered.Failed failure) truly step = absurd (step.0 truly.no_error)
+  pub is_taken : (Seen : List ℕ → Type 0) (old new : Dialogue) (answer : Pdu) (becomes : Answered) → IsTrueAnswer device (asks_of old.columns.items) answer → IsNoError answer → IsAnswered Seen answer old new becomes → becomes ≡ answered.Taken
+  is_taken Seen old new answer answered.Taken truly none step = refl
+  is_taken Seen old new answer (answered.Unfit fault) truly none step =
+      absurd (no_fault (asks_of old.columns.items) (variables_of answer.list.now) fault (all_fit (asks_of old.columns.items) (variables_of answer.list.now) (truly.answered none)) step.1)
+  is_taken Seen old new answer (answered.Ended number) truly none step = absurd (step.0 none)
+  is_taken Seen old new answer (answered.Failed failure) truly none step = absurd (step.0 none)

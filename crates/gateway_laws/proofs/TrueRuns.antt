@@ -28,7 +28,7 @@ module _ (device : Known) (Seen : List ℕ → Type 0) where
   got_each (a ∷ asked) [] all = absurd all
   got_each (a ∷ asked) (v ∷ vs) all = (all.0, got_each asked vs all.1)
 
-  next_each : (asked vs : List Variable) → AreAnswered device Seen (requests_of GetNext asked) vs → AreNextAnswers device Seen (map (λ (v : Variable). v.name) asked) vs
+  pub next_each : (asked vs : List Variable) → AreAnswered device Seen (requests_of GetNext asked) vs → AreNextAnswers device Seen (map (λ (v : Variable). v.name) asked) vs
   next_each [] [] all = tt
   next_each [] (v ∷ vs) all = absurd all
   next_each (a ∷ asked) [] all = absurd all
@@ -42,10 +42,10 @@ module _ (device : Known) (Seen : List ℕ → Type 0) where
   module _ (is : IsDevice device) where
     pub tracks_after : (old new : Dialogue) (answer : Pdu) (becomes : Answered) → IsTrueAnswer device (asks_of old.columns.items) answer → IsAnswered Seen answer old new becomes
         → AllTrack device Seen old.columns.items → AllTrack device Seen new.columns.items
-    tracks_after old new answer answered.Taken truly step tracks = all_take device Seen is old.columns.items (variables_of answer.list.now) new.columns.items truly.answered step.2 tracks
+    tracks_after old new answer answered.Taken truly step tracks = all_take device Seen is old.columns.items (variables_of answer.list.now) new.columns.items (truly.answered step.0) step.2 tracks
     tracks_after old new answer (answered.Unfit fault) truly step tracks = subst (λ (d : Dialogue). AllTrack device Seen d.columns.items) (sym step.2) tracks
-    tracks_after old new answer (answered.Ended number) truly step tracks = absurd (step.0 truly.no_error)
-    tracks_after old new answer (answered.Failed failure) truly step tracks = absurd (step.0 truly.no_error)
+    tracks_after old new answer (answered.Ended number) truly step tracks = absurd (truly.not_version_1 step.1.status.0)
+    tracks_after old new answer (answered.Failed failure) truly step tracks = subst (λ (d : Dialogue). AllTrack device Seen d.columns.items) (sym step.3) tracks
 
     run_tracks : (told : List Variable) (steps : List Step) (first last : Dialogue) → IsTrueRun device Seen told first steps last → AllTrack device Seen first.columns.items → AllTrack device Seen last.columns.items
     run_tracks told [] first last run tracks = subst (λ (d : Dialogue). AllTrack device Seen d.columns.items) (sym run) tracks

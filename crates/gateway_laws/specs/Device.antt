@@ -2,8 +2,8 @@
 --
 -- `IsDevice`: its variables have values, and names that an OBJECT IDENTIFIER can spell. `IsAnswered`: what a name is
 -- answered with, of the variables that are seen. `AllSeen`: the device itself hides none. `IsTrueAnswer`: an answer of
--- the device has what RFC 3416 says for each name that was asked.
-use Rattle.std.specs.Prelude.{⊤, ℕ, List, Contains}
+-- the device has what RFC 3416 says for each name that was asked, or an error.
+use Rattle.std.specs.Prelude.{◌≡◌, ⊤, ℕ, List, Contains}
 use Rattle.std.specs.List.{AllZip}
 use Rattle.snmp_ber.specs.Oid.{AreArcs, IsObjectId}
 use Rattle.snmp_msg.specs.Variables.{Variable, variables_of}
@@ -12,6 +12,7 @@ use Rattle.snmp_responder.specs.Instrumentation.{IsGot, Known}
 use Rattle.snmp_responder.specs.Next.{IsNextAnswer}
 use Rattle.snmp_walk.specs.Answer.{IsNoError}
 use Rattle.snmp_walk.specs.Bindings.{IsValue}
+use Rattle.snmp_walk.specs.declared.failure.TheConstants.{NO_SUCH_NAME}
 use Rattle.snmp_walk.specs.declared.operation.ReadOperation.{ReadOperation}
 use Rattle.snmp_walk.specs.declared.operation.ReadOperation.TheVariants.{Get, GetNext}
 
@@ -35,7 +36,8 @@ abbrev pub AreAnswered : Known → (List ℕ → Type 0) → List (ReadOperation
 AreAnswered device Seen asks vs =
     AllZip (λ (ask : ReadOperation × List ℕ) v. IsAnswered device Seen ask.0 ask.1 v) asks vs
 
--- the answer has no error, and what the device has for each name
+-- an answer of the device: without an error it has what the device has for each name; and it doesn't say noSuchName,
+-- which is for devices of version-1 (RFC 3416, section 3)
 pub record IsTrueAnswer (device : Known) (asks : List (ReadOperation × List ℕ)) (answer : Pdu) : Type 0 where
-  pub no_error : IsNoError answer
-  pub answered : AreAnswered device AllSeen asks (variables_of answer.list.now)
+  pub answered : IsNoError answer → AreAnswered device AllSeen asks (variables_of answer.list.now)
+  pub not_version_1 : ¬ (answer.second ≡ NO_SUCH_NAME)

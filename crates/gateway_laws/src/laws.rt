@@ -1,6 +1,6 @@
 //! Laws of devices that are seen through a view.
 
-ghost use Rattle.std.specs.Prelude.{◌≡◌, ◌≢◌, ◌<◌, ◌++◌, ℕ, [], All, AllPairs, List, length, map, slice_index_or};
+ghost use Rattle.std.specs.Prelude.{◌≡◌, ◌≢◌, ◌<◌, ◌≤◌, ◌++◌, ℕ, [], All, AllPairs, List, length, map, slice_index_or};
 ghost use Rattle.std.specs.List.{AllZip};
 ghost use Rattle.snmp_msg.specs.Variables.{Variable, variable_of};
 ghost use Rattle.snmp_msg.specs.declared.binding.Binding.{Binding};
@@ -15,13 +15,14 @@ ghost use Rattle.snmp_responder.specs.Distinct.{HasDistinctNames};
 ghost use Rattle.snmp_responder.specs.Instrumentation.{IsGot, Known};
 ghost use Rattle.snmp_responder.specs.Next.{AreNextAnswers};
 ghost use Rattle.snmp_responder.specs.declared.viewer.Viewer.{Viewer};
-ghost use Rattle.snmp_walk.specs.Answer.{IsAnswered};
+ghost use Rattle.snmp_walk.specs.Answer.{IsAnswered, IsNoError};
 ghost use Rattle.snmp_walk.specs.BulkColumn.{IsNew};
-ghost use Rattle.snmp_walk.specs.BulkDialogue.{bulk_requests, bulk_requests_of};
+ghost use Rattle.snmp_walk.specs.BulkDialogue.{HasGathered, HasRepetition, IsEnough, bulk_requests, bulk_requests_of};
 ghost use Rattle.snmp_walk.specs.BulkRun.{BulkStep};
 ghost use Rattle.snmp_walk.specs.Dialogue.{AllBegin, IsShown, asks_of, requests, requests_of};
 ghost use Rattle.snmp_walk.specs.Front.{IsFront};
 ghost use Rattle.snmp_walk.specs.Run.{Step};
+ghost use Rattle.snmp_walk.specs.declared.bulk_column.BulkColumn.{BulkColumn};
 ghost use Rattle.snmp_walk.specs.declared.bulk_dialogue.BulkDialogue.{BulkDialogue};
 ghost use Rattle.snmp_walk.specs.declared.dialogue.Answered.{Answered};
 ghost use Rattle.snmp_walk.specs.declared.dialogue.Answered.TheVariants.{Taken};
@@ -49,7 +50,7 @@ pub fn a_device_in_a_view()
         → IsTrueRun device (seen_by viewer) told first steps last → AllZip IsShown last.columns.items response
         → AreNextAnswers device (seen_by viewer) (map (λ v. v.name) asked) (map variable_of response) }
     ensures taken { (viewer : Viewer) (device : Known) (old new : Dialogue) (answer : Pdu) (becomes : Answered)
-        → IsDevice device → IsTrueAnswer device (asks_of old.columns.items) answer
+        → IsDevice device → IsTrueAnswer device (asks_of old.columns.items) answer → IsNoError answer
         → IsAnswered (seen_by viewer) answer old new becomes → becomes ≡ Taken }
 {}
 
@@ -65,6 +66,20 @@ pub fn a_front_of_a_view()
         → IsFront last.non_repeaters last.max_repetitions last.columns.items response
         → IsFrontOfBulk device (seen_by viewer) (map (λ v. v.name) asked) first.non_repeaters first.max_repetitions
         response }
+{}
+
+/// How long that front is: of such a device a dialogue that asks for one repetition at least, and ends with enough, has
+/// the first binding of each name, unless the device gave more octets than are kept (`enough`). Then the front has at
+/// least one whole repetition, and the non-repeaters before it (`repetition`).
+pub fn a_front_has_a_repetition()
+    ensures enough { (viewer : Viewer) (device : Known) (told asked : List Variable) (steps : List BulkStep)
+        (first last : BulkDialogue) → IsDevice device → All IsNew first.columns.items
+        → bulk_requests first ≡ bulk_requests_of first.non_repeaters first.max_repetitions asked
+        → 0 < first.max_repetitions → IsTrueBulkRun device (seen_by viewer) told first steps last
+        → IsEnough last → ¬ HasGathered last.gathered last.columns.items → HasRepetition last.columns.items }
+    ensures repetition { (non_repeaters most : ℕ) (columns : List BulkColumn) (response : List Variable)
+        → 0 < most → HasRepetition columns → IsFront non_repeaters most columns response
+        → length columns ≤ length response }
 {}
 
 /// An answer to a GetBulkRequest that is a front of what RFC 3416 says (section 4.2.3) has for each column what the

@@ -6,5 +6,6 @@
 mod laws;
 
 pub use laws::{
-    a_bulk_answer_in_turn, a_device_in_a_view, a_front_of_a_view, devices_that_look_alike,
+    a_bulk_answer_in_turn, a_device_in_a_view, a_front_has_a_repetition, a_front_of_a_view,
+    devices_that_look_alike,
 };

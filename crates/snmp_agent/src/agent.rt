@@ -116,6 +116,15 @@ impl Agent {
         }
     }
 
+    /// Users and view-based access become those of a changed configuration. The engine, its boots, the moment of its
+    /// start and all counters stay. It takes no memory.
+    pub fn reconfigure(&mut self, users: Users, vacm: Vacm)
+        ensures { self.new ≡ record self.old { users = users.users; tables = vacm } }
+    {
+        self.users = users;
+        self.vacm = vacm;
+    }
+
     /// The value of counter n, usmStats n of RFC 3414, section 5, or None where n isn't 1 to 6.
     pub fn counter(&self, n: u8) -> Option<u32>
         ensures { MatchOption result ((n ≡ 0) ⊎ (6 < n))

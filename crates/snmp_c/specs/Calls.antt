@@ -2,11 +2,11 @@
 --
 -- `Done`, `Accesses`: the answer is the number of the result. `Takes`, `Allows`, `WritesNextName`, `May`,
 -- `Counter`, `RespondsTo`, `Notifies`, `TellsPart`, `TellsMessage`, `TellsNumbers`, `ClearsAgent`: what each
--- export answers and leaves. `Makes`: the answer of `_new`. `ReadsBinding`, `Writes`: bindings as octets.
--- `TellsConfiguration`: why a configuration is refused. `MaxSize`, `RespondsToWithin`, `UnhandledBy`,
--- `RefusesKept`, `CountOf`, `DropsSilently`: those that go with an agent's answers. `ManagerMaxSize`,
--- `TookAnswer`, `ToldReport`, `HasReport`: those on the answers to a manager's requests. `IsValueCode`:
--- whether a content fits its tag.
+-- export answers and leaves. `Makes`: the answer of `_new`. `Reconfigured`: another configuration.
+-- `ReadsBinding`, `Writes`: bindings as octets. `TellsConfiguration`: why a configuration is refused.
+-- `MaxSize`, `RespondsToWithin`, `UnhandledBy`, `RefusesKept`, `CountOf`, `DropsSilently`: those that go with
+-- an agent's answers. `ManagerMaxSize`, `TookAnswer`, `ToldReport`, `HasReport`: those on the answers to a
+-- manager's requests. `IsValueCode`: whether a content fits its tag.
 use Rattle.std.specs.Prelude.{◌≡◌, ◌≢◌, ◌<◌, ◌≤◌, ◌⊎◌, ⊤, ℕ, ℤ, pos, List, length, drop, ◌++◌, Option, Some, Result}
 use Rattle.std.specs.Prelude.{Ok, Err, MatchOption}
 use Rattle.std.specs.Int.{to_be_bytes, w64}
@@ -25,6 +25,7 @@ use Rattle.snmp_handles.specs.Parts.{part_of, CopiesNothing, CopiesPart, CopiesM
 use Rattle.snmp_incoming.specs.Outcome.{Given}
 use Rattle.snmp_msg.specs.Values.{IsValueOf}
 use Rattle.snmp_handles.specs.Agents.{AgentHeld, Clears, MakesAgent, TakesHeld, TakesNoMemory, AllowsHeld, MaySee}
+use Rattle.snmp_handles.specs.Agents.{Reconfigures}
 use Rattle.snmp_handles.specs.Agents.{Counts, RespondsHeld, Notice, NotifiesHeld}
 use Rattle.snmp_handles.specs.Walks.{WritesNext}
 
@@ -40,6 +41,9 @@ Accesses Says answer = (told : Result Access CallFault) × (answer ≡ access_co
 abbrev pub Makes : List ℕ → List ℕ → ℕ → ℕ → ℤ → Type 0
 Makes config engine boots started answer = (told : Result AgentHeld CallFault) × (answer ≡ code told)
     × MakesAgent config engine boots started told
+
+abbrev pub Reconfigured : List ℕ → AgentHeld → AgentHeld → ℤ → Type 0
+Reconfigured config old new answer = Done (λ told. Reconfigures old config told new) answer
 
 -- 14, OutOfMemory, isn't answered where no memory is asked for.
 abbrev pub Takes : ℕ → List ℕ → AgentHeld → AgentHeld → ℤ → Type 0

@@ -40,7 +40,8 @@ TakesFromDevice now device datagram old new answer =
     Eventful (λ told. TakesDevice old now device datagram told new) answer
 
 abbrev pub SendsDue : ℕ → ℕ → ℕ → GateHeld → GateHeld → ℤ → Type 0
-SendsDue now salt ask_id old new answer = Eventful (λ told. SendsNext old now (to_be_bytes w64 salt) told new) answer
+SendsDue now salt ask_id old new answer =
+    Eventful (λ told. SendsNext old now (to_be_bytes w64 salt) ask_id told new) answer
 
 -- the moment is written where there is one
 abbrev pub TellsDue : ℕ → ℕ → GateHeld → GateHeld → ℤ → Type 0

@@ -6,10 +6,10 @@ ghost use Rattle.std.specs.Ptr.{lies_at};
 ghost use Rattle.snmp_handles.specs.contracts.agent.AgentHandle as agents;
 ghost use Rattle.snmp_handles.specs.Agents.{AgentHeld};
 ghost use Rattle.snmp_c.specs.Calls.{Makes, ClearsAgent, Takes, Allows, May, Counter, RespondsTo, Notifies};
-ghost use Rattle.snmp_c.specs.Calls.{TellsPart, TellsMessage, TellsNumbers, WritesNextName};
+ghost use Rattle.snmp_c.specs.Calls.{TellsPart, TellsMessage, TellsNumbers, WritesNextName, Reconfigured};
 
 use crate::agent_calls::{
-    allows, clear, counter, may, message, next, notify, numbers, part, respond, take,
+    allows, clear, counter, may, message, next, notify, numbers, part, reconfigure, respond, take,
 };
 use snmp_handles::{AgentHandle, CallFault};
 use snmp_msg::Refusal;
@@ -49,6 +49,19 @@ pub extern "C" fn proved_agent_new(
         }
         Err(_) => CallFault::Refused(Refusal::OutOfMemory).code(),
     }
+}
+
+/// Users and tables become those of this configuration, in TOML; the engine, its boots, all counters, the message that
+/// is kept and the message to be sent stay. It answers -6 where the configuration is refused, and 14 if memory runs
+/// out, and nothing changes then.
+#[unsafe(no_mangle)]
+pub unsafe extern "C" fn proved_agent_reconfigure(at: *mut u8, config: &[u8]) -> i32
+    ghost held: { AgentHeld }
+    requires* { sem 𝓛 (lies_at agents.the_row full_share at held) }
+    ensures* { ∃ₛ (λ (new : AgentHeld). sem 𝓛
+        (lies_at agents.the_row full_share at new) ∗ ⌜ Reconfigured config.now held new result ⌝) }
+{
+    reconfigure(&mut *(at as *mut AgentHandle), config)
 }
 
 /// Gives back all memory but the block at the pointer, for which the caller then calls the heap's

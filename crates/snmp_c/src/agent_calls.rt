@@ -1,7 +1,7 @@
 //! What the calls on an agent do, without pointers.
 
 ghost use Rattle.snmp_c.specs.Calls.{ClearsAgent, Takes, Allows, May, Counter, RespondsTo, Notifies, TellsPart};
-ghost use Rattle.snmp_c.specs.Calls.{TellsMessage, TellsNumbers, WritesNextName};
+ghost use Rattle.snmp_c.specs.Calls.{TellsMessage, TellsNumbers, WritesNextName, Reconfigured};
 
 use snmp_handles::{
     AgentHandle, CallFault, NoticeTo, Part, access_code_of, code_of, value_code_of,
@@ -140,6 +140,13 @@ pub(crate) fn numbers(handle: &mut AgentHandle, out: &mut [i32]) -> i32
     }
     out[..numbers.len()].copy_from_slice(&numbers);
     0
+}
+
+/// Has the users and the tables of another configuration.
+pub(crate) fn reconfigure(handle: &mut AgentHandle, config: &[u8]) -> i32
+    ensures { Reconfigured config.now handle.old handle.new result }
+{
+    code_of(handle.reconfigure(config))
 }
 
 /// Gives back all memory but the block of the handle.

@@ -18,6 +18,8 @@ pub mod forward;
 mod forward_calls;
 pub mod gate;
 mod gate_calls;
+pub mod kept;
+mod kept_calls;
 pub mod keys;
 pub mod manager;
 mod manager_calls;

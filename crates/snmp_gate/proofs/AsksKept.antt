@@ -5,7 +5,7 @@ use Rattle.std.proofs.lemmas.Bool.Decides.{eqb_tells, leb_tells}
 use Rattle.std.proofs.Math.Seq.{split_at}
 use Rattle.std.proofs.lemmas.List.{get_or_default, get_or-set_other, get_or-set_same}
 use Rattle.std.proofs.lemmas.List.Elements.{All-get_or, All-set, Contains-append_cases, Contains-append_left, Contains-append_right, Contains-push, Contains-push_cases}
-use Rattle.snmp_msg.specs.Variables.{Variable}
+use Rattle.gateway_laws.specs.Requests.{RequestPdu}
 use Rattle.snmp_gate.specs.AskRuns.{HaveOwnIds}
 use Rattle.snmp_gate.specs.Asks.{Ends, IsNextFree, Waits, ask_of, id_after}
 use Rattle.snmp_gate.specs.declared.asks.TheConstants.{REQUEST_IDS}
@@ -66,7 +66,7 @@ pub asks_same : (e : Happening) (before : List Happening) (asks : List (List Dev
 asks_same e before asks same stands = record { own = stands.own; there = λ k ask is. stands.there k ask (sym (same k) ∙ is) }
 
 -- the device is asked with a request-id that is free
-module _ (before : List Happening) (n device id from : ℕ) (vs : List Variable) (w : List ℕ) (asks : List (List DeviceAsk)) (within : device < length asks) (stands : AsksStand before asks) where
+module _ (before : List Happening) (n device id from : ℕ) (what : RequestPdu) (w : List ℕ) (asks : List (List DeviceAsk)) (within : device < length asks) (stands : AsksStand before asks) where
   pub free_own : IsNextFree (slice_index_or asks device []) from id → IsOwnId before n device id
   free_own free other ask differs is at same_id = free.is_free (record {
     ask = ask_of ask.id other;
@@ -74,22 +74,22 @@ module _ (before : List Happening) (n device id from : ℕ) (vs : List Variable)
     id_is = same_id;
   })
 
-  now_open : (ask : OpenAsk) → open_ask n (asked n device id vs w ∷ before) ≡ Some ask → record { device = device; id = id; variables = vs } ≡ ask
-  now_open ask is = open_in (record { device = device; id = id; variables = vs }) ask (sym (chosen n (Some (record { device = device; id = id; variables = vs })) (open_ask n before)) ∙ is)
+  now_open : (ask : OpenAsk) → open_ask n (asked n device id what w ∷ before) ≡ Some ask → record { device = device; id = id; request = what } ≡ ask
+  now_open ask is = open_in (record { device = device; id = id; request = what }) ask (sym (chosen n (Some (record { device = device; id = id; request = what })) (open_ask n before)) ∙ is)
 
-  pub asks_asked : IsNextFree (slice_index_or asks device []) from id → AsksStand (asked n device id vs w ∷ before) (slice_set asks device (slice_index_or asks device [] ++ ask_of id n ∷ []))
+  pub asks_asked : IsNextFree (slice_index_or asks device []) from id → AsksStand (asked n device id what w ∷ before) (slice_set asks device (slice_index_or asks device [] ++ ask_of id n ∷ []))
   asks_asked free =
       let xs = slice_index_or asks device [] in
       let ys = xs ++ ask_of id n ∷ [] in record {
         own = All-set HaveOwnIds asks device ys (own_asked xs from n id free (All-get_or HaveOwnIds asks device [] within stands.own)) stands.own;
         there = λ k ask is. elim (eqb_tells k n) [
           | inl (test, same) ↦
-              let now = now_open ask (subst (λ (i : ℕ). open_ask i (asked n device id vs w ∷ before) ≡ Some ask) same is) in
+              let now = now_open ask (subst (λ (i : ℕ). open_ask i (asked n device id what w ∷ before) ≡ Some ask) same is) in
               subst (λ (a : OpenAsk). Contains (slice_index_or (slice_set asks device ys) a.device []) (ask_of a.id k)) now
               (subst (λ (i : ℕ). Contains (slice_index_or (slice_set asks device ys) device []) (ask_of id i)) (sym same)
               (subst (λ (zs : List DeviceAsk). Contains zs (ask_of id n)) (sym (get_or-set_same asks device ys [] within)) (Contains-push xs (ask_of id n))))
           | inr (test, other) ↦
-              let old = stands.there k ask (sym (open_other (asked n device id vs w) before k other) ∙ is) in
+              let old = stands.there k ask (sym (open_other (asked n device id what w) before k other) ∙ is) in
               elim (eqb_tells ask.device device) [
                 | inl (t, at) ↦ subst (λ (zs : List DeviceAsk). Contains zs (ask_of ask.id k)) (sym (ap (λ (d : ℕ). slice_index_or (slice_set asks device ys) d []) at ∙ get_or-set_same asks device ys [] within))
                     (Contains-append_left xs (ask_of id n ∷ []) (ask_of ask.id k) (subst (λ (d : ℕ). Contains (slice_index_or asks d []) (ask_of ask.id k)) at old))
@@ -99,24 +99,24 @@ module _ (before : List Happening) (n device id from : ℕ) (vs : List Variable)
       }
 
   -- it is asked with the request-id that it was asked with
-  again_own : (old : List Variable) → open_ask n before ≡ Some (record { device = device; id = id; variables = old }) → IsOwnId before n device id
+  again_own : (old : RequestPdu) → open_ask n before ≡ Some (record { device = device; id = id; request = old }) → IsOwnId before n device id
   again_own old opened other ask differs is at same_id =
       let xs = slice_index_or asks device [] in
       let theirs = subst (λ (d : ℕ). Contains (slice_index_or asks d []) (ask_of ask.id other)) at (stands.there other ask is) in
-      let ours = stands.there n (record { device = device; id = id; variables = old }) opened in
+      let ours = stands.there n (record { device = device; id = id; request = old }) opened in
       let one = one_entry xs (ask_of ask.id other) (ask_of id n) (All-get_or HaveOwnIds asks device [] within stands.own) theirs ours same_id in
       differs (ap (λ (x : DeviceAsk). x.request) one)
 
-  pub asks_again : (old : List Variable) → open_ask n before ≡ Some (record { device = device; id = id; variables = old }) → AsksStand (asked n device id vs w ∷ before) asks × IsOwnId before n device id
+  pub asks_again : (old : RequestPdu) → open_ask n before ≡ Some (record { device = device; id = id; request = old }) → AsksStand (asked n device id what w ∷ before) asks × IsOwnId before n device id
   asks_again old opened = (
     record {
       own = stands.own;
       there = λ k ask is. elim (eqb_tells k n) [
         | inl (test, same) ↦
-            let now = now_open ask (subst (λ (i : ℕ). open_ask i (asked n device id vs w ∷ before) ≡ Some ask) same is) in
+            let now = now_open ask (subst (λ (i : ℕ). open_ask i (asked n device id what w ∷ before) ≡ Some ask) same is) in
             subst (λ (a : OpenAsk). Contains (slice_index_or asks a.device []) (ask_of a.id k)) now
-            (subst (λ (i : ℕ). Contains (slice_index_or asks device []) (ask_of id i)) (sym same) (stands.there n (record { device = device; id = id; variables = old }) opened))
-        | inr (test, other) ↦ stands.there k ask (sym (open_other (asked n device id vs w) before k other) ∙ is)
+            (subst (λ (i : ℕ). Contains (slice_index_or asks device []) (ask_of id i)) (sym same) (stands.there n (record { device = device; id = id; request = old }) opened))
+        | inr (test, other) ↦ stands.there k ask (sym (open_other (asked n device id what w) before k other) ∙ is)
       ];
     },
     again_own old opened,
@@ -146,7 +146,7 @@ module _ (e : Happening) (before : List Happening) (n device : ℕ) (closed : op
   unchanged asks new same stands = subst (AsksStand (e ∷ before)) (sym same) (record { own = stands.own; there = λ k ask is. (left_there asks stands k ask is).1 })
 
   pub asks_ended : (id : Option ℕ) (asks new : List (List DeviceAsk)) → EndsAsk device id asks new
-      → ((i : ℕ) → id ≡ Some i → (vs : List Variable) × (open_ask n before ≡ Some (record { device = device; id = i; variables = vs }))) → AsksStand before asks → AsksStand (e ∷ before) new
+      → ((i : ℕ) → id ≡ Some i → (what : RequestPdu) × (open_ask n before ≡ Some (record { device = device; id = i; request = what }))) → AsksStand before asks → AsksStand (e ∷ before) new
   asks_ended id asks new (EndsAsk.none none same) opened stands = unchanged asks new same stands
   asks_ended id asks new (EndsAsk.idle i is not same) opened stands = unchanged asks new same stands
   asks_ended id asks new (EndsAsk.ends i request left is ended new_is) opened stands =
@@ -154,7 +154,7 @@ module _ (e : Happening) (before : List Happening) (n device : ℕ) (closed : op
       let within = asked_within asks device ended.place ended.within in
       let own = All-get_or HaveOwnIds asks device [] within stands.own in
       let ours = opened i is in
-      let here = stands.there n (record { device = device; id = i; variables = ours.0 }) ours.1 in
+      let here = stands.there n (record { device = device; id = i; request = ours.0 }) ours.1 in
       subst (AsksStand (e ∷ before)) (sym new_is) (record {
         own = All-set HaveOwnIds asks device left (own_ended xs left (ask_of i request) ended own) stands.own;
         there = λ k ask opens. let known = left_there asks stands k ask opens in
@@ -220,7 +220,7 @@ pub answered_asks : (e : Happening) (before : List Happening) (n device id : ℕ
     → (ask : OpenAsk) → open_ask n before ≡ Some ask → ask.device ≡ device → ask.id ≡ id → AsksStand before (asks_in asks) → AsksStand (e ∷ before) (asks_in (slice_set asks device new))
 answered_asks e before n device id asks a new ended closed others within is ends ask opened at same stands =
     asks_ended e before n device closed others (Some id) (asks_in asks) (asks_in (slice_set asks device new)) (ended_one asks device id a new ended (Some id) within is refl ends)
-    (λ i some. (ask.variables, opened ∙ (λ j. Some (record { device = at j; id = (same ∙ open_number id i some) j; variables = ask.variables })))) stands
+    (λ i some. (ask.request, opened ∙ (λ j. Some (record { device = at j; id = (same ∙ open_number id i some) j; request = ask.request })))) stands
 
 -- a request-id that is free is the next one that is
 pub free_again : (asks : List DeviceAsk) (from id free : ℕ) → id < REQUEST_IDS → IsNextFree asks from id → IsNextFree asks id free → free ≡ id

@@ -1,9 +1,17 @@
 -- How a device's answer ends a request.
 use Rattle.std.specs.Prelude.{◌≡◌}
-use Rattle.std.proofs.Common.{ap, sym, ◌∙◌}
+use Rattle.std.proofs.Common.{ap, inr, refl, sym, ◌∙◌}
+use Rattle.snmp_msg.specs.Pdu.{pdu_of}
+use Rattle.snmp_msg.specs.declared.pdu.Pdu.{Pdu}
+use Rattle.snmp_gate.specs.SetOutcome.{IsToldStatus}
+use Rattle.snmp_gate.specs.Work.{IsOwnStatus, SaysAll, TaskStands, request_of_task}
+use Rattle.snmp_gate.specs.declared.set_answer.ResponseStatus.{ResponseStatus}
+use Rattle.snmp_msg.specs.PduTypes.{pdu_tag}
+use Rattle.snmp_msg.specs.declared.pdu_type.PduType.TheVariants.{SetRequest}
+use Rattle.snmp_gate.specs.declared.task.Task.TheVariants as task
 use Rattle.vacm_core.specs.Tables.{Tables}
 use Rattle.snmp_gate.specs.Said.{Said}
-use Rattle.snmp_gate.specs.Ends.{FailsOrGoesOn, IsEndFor}
+use Rattle.snmp_gate.specs.Ends.{EndsSet, FailsOrGoesOn, IsEndFor}
 use Rattle.snmp_gate.specs.Taking.{WorkAfter}
 use Rattle.snmp_gate.specs.declared.work.OpenRequest.{OpenRequest}
 use Rattle.snmp_gate.specs.declared.work.RequestEnd.{RequestEnd}
@@ -15,10 +23,23 @@ use Rattle.snmp_gate.specs.Question.{Question}
 use Rattle.snmp_gate.specs.declared.onward.AnswerTaken.{AnswerTaken}
 use Rattle.snmp_gate.specs.declared.onward.AnswerTaken.TheVariants.{Ends, Front, GoesOn}
 
-pub fails_end : (q : Question) (taken : AnswerTaken) → FailsOrGoesOn taken → IsEndFor q taken
-fails_end q (Ends says) fails = λ same. absurd (fails same)
-fails_end q Front fails = tt
-fails_end q GoesOn fails = tt
+pub fails_end : (q : Question) (told : Said) (taken : AnswerTaken) → (q.tag ≡ pdu_tag SetRequest → ⊥) → FailsOrGoesOn taken → IsEndFor q told taken
+fails_end q told (Ends says) read fails = record { no_error = λ same. absurd (fails same); set = λ is_set. absurd (read is_set) }
+fails_end q told Front read fails = tt
+fails_end q told GoesOn read fails = tt
+
+-- a Set that ends without an error was done
+set_ends : (tables : Tables) (q : Question) (told : Said) (answer : Pdu) (says : ResponseStatus) → SaysAll (request_of_task q task.Set) answer told → TaskStands tables q told task.Set → IsToldStatus answer.second says.status
+    → IsOwnStatus q told says
+set_ends tables q told answer says all stands is = record {
+  no_error = λ none. stands.tag;
+  set = λ is_set. inr (inr (record { exchange = record { asked = request_of_task q task.Set; answer = pdu_of answer }; there = all.exchange; set = refl; told = is }));
+}
+
+pub set_taken : (tables : Tables) (q : Question) (told : Said) (answer : Pdu) (taken : AnswerTaken) → SaysAll (request_of_task q task.Set) answer told → TaskStands tables q told task.Set → EndsSet answer taken → IsEndFor q told taken
+set_taken tables q told answer (Ends says) all stands is = set_ends tables q told answer says all stands is.status
+set_taken tables q told answer Front all stands is = absurd is
+set_taken tables q told answer GoesOn all stands is = absurd is
 
 pub one_open : (w : Work) (a b : OpenRequest) → w ≡ Open a → w ≡ Open b → a ≡ b
 one_open w a b is also = let same : Open a ≡ Open b = sym is ∙ also in cc

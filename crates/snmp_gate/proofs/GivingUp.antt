@@ -1,13 +1,13 @@
 -- A request that is given up.
 use Rattle.std.specs.Prelude.{◌≡◌, ◌∷◌, ◌<◌, ◌≤◌, ℕ, suc, zero, List, [], Option, Some, None, IfSome, length, slice_index_or}
 use Rattle.std.proofs.Common.{refl, sym, ap, subst, ◌∙◌, arith}
+use Rattle.gateway_laws.specs.Requests.{RequestPdu}
 use Rattle.snmp_gate.specs.Devices.{IsDeviceOf}
 use Rattle.snmp_gate.specs.Groups.{Group, IsWorked, group_of, groups_of}
 use Rattle.snmp_gate.specs.History.{AskedBy, Happening, given_up, open_ask}
 use Rattle.snmp_gate.specs.Sending.{IsAskedAt, IsGivenUp, IsOpenAt}
 use Rattle.snmp_gate.specs.Waiting.{EndsAsk, GateStands, GroupStands, Happens, OpenStands, SetsStand, WorkStands, asks_in}
-use Rattle.snmp_gate.specs.Work.{variables_of_task}
-use Rattle.snmp_msg.specs.Variables.{Variable}
+use Rattle.snmp_gate.specs.Work.{request_of_task}
 use Rattle.snmp_gate.specs.declared.asks.TheConstants.{REQUEST_IDS}
 use Rattle.snmp_gate.specs.declared.devices.Devices.{Devices}
 use Rattle.snmp_gate.specs.declared.gate.Gate.{Gate}
@@ -56,17 +56,17 @@ known_at old since before place number device r is within opened stands =
 
 -- if it is asked with a request-id, that is open
 asked_open : (old : Gate) (before : List Happening) (place number device : ℕ) (known : IsKnownAt old before place number device) (asked : Option ℕ) → IfSome asked (λ id. (id < REQUEST_IDS) × IsAskedAt old.requests.list.items place id) → (i : ℕ) → asked ≡ Some i
-    → (vs : List Variable) × (open_ask number before ≡ Some (record { device = device; id = i; variables = vs }))
+    → (what : RequestPdu) × (open_ask number before ≡ Some (record { device = device; id = i; request = what }))
 asked_open old before place number device known None asks i is = absurd (none_is_some i is)
 asked_open old before place number device known (Some id) asks i is =
     let r = known.request in
     let o = subst (λ (x : WaitingRequest WaitingMessage Work). (p : OpenRequest) × (x.work ≡ Open p) × (p.asked ≡ Some id)) (sym known.is) (asks.1 r) in
     let same = one_open r.work o.0 known.waits o.1 known.work_is in
     let asked_is : known.waits.asked ≡ Some i = ap (λ (p : OpenRequest). p.asked) (sym same) ∙ o.2 ∙ is in
-    let vs = variables_of_task known.group.question known.waits.task.task in (
-      vs,
-      subst (λ (n : ℕ). open_ask n before ≡ Some (record { device = device; id = i; variables = vs })) known.number_is
-          (known.opened.asked i asked_is ∙ (λ j. Some (record { device = known.device_is j; id = i; variables = vs }))),
+    let what = request_of_task known.group.question known.waits.task.task in (
+      what,
+      subst (λ (n : ℕ). open_ask n before ≡ Some (record { device = device; id = i; request = what })) known.number_is
+          (known.opened.asked i asked_is ∙ (λ j. Some (record { device = known.device_is j; id = i; request = what }))),
     )
 
 -- what stands at a place

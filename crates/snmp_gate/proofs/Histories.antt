@@ -36,19 +36,20 @@ use Rattle.snmp_gate.specs.declared.work.RequestEnd.TheVariants as ending
 use Rattle.std.proofs.lemmas.Bool.{false≢true}
 use Rattle.snmp_gate.specs.declared.requests.WaitingRequest.{WaitingRequest}
 use Rattle.snmp_gate.proofs.GroupSteps.{group_at, groups_set}
-use Rattle.snmp_gate.specs.History.{AskedBy, Happening, IsAccepted, IsAnswerOf, IsCommunityFor, IsMediated, MayAskFor, OpenAsk, accepted, answered, asked, ends_in, exchange_in, given_up, more_said, number_of, open_ask, said_by, sent, told_in, unanswered, waiting_in}
+use Rattle.snmp_gate.specs.History.{AskedBy, Happening, IsAccepted, IsAnswerOf, IsCommunityFor, IsMediated, MayAskFor, OpenAsk, accepted, answered, asked, asked_more, ends_in, exchange_in, given_up, more_said, number_of, open_ask, said_by, sent, told_in, unanswered, waiting_in}
 use Rattle.snmp_gate.specs.Lawful.{IsInTurn, IsNext, WasAsked}
 use Rattle.snmp_gate.specs.Limits.{asks_since}
 use Rattle.snmp_gate.specs.Question.{Question}
 use Rattle.snmp_gate.specs.Time.{times_asked}
 use Rattle.snmp_gate.specs.Waiting.{AllCameFrom, AreNumbered, GroupStands, GroupsStand, OpenStands, RequestsStand, WorkStands}
-use Rattle.snmp_gate.specs.Work.{EndingStands, SaysAll, TaskStands, end_of, variables_of_task}
+use Rattle.snmp_gate.specs.Work.{EndingStands, SaysAll, TaskStands, end_of, request_of_task}
 use Rattle.snmp_gate.specs.declared.devices.Device.{Device}
 use Rattle.snmp_gate.specs.declared.waiting_message.WaitingMessage.{WaitingMessage}
 use Rattle.snmp_gate.specs.declared.work.OpenRequest.{OpenRequest}
 use Rattle.snmp_gate.specs.declared.work.Work.{Work}
 use Rattle.snmp_gate.specs.declared.work.Work.TheVariants.{Open, Ends}
 use Rattle.snmp_gate.proofs.Asked.{none_is_some}
+use Rattle.gateway_laws.specs.Requests.{RequestPdu}
 use Rattle.snmp_gate.proofs.Others.{ask_later, ask_other, chosen, contains_cons, open_other, same_number, since_other, told_other, wait_other, was_before, was_other}
 use Rattle.snmp_gate.proofs.More.{HasAll, task_more}
 use Rattle.snmp_gate.proofs.Pairs.{pairs_set}
@@ -190,14 +191,14 @@ asked_by tables devices before r group = record {
 answered_not_accepted : (n device : ℕ) (p : PduParts) (w : List ℕ) (k at : ℕ) (v : List ℕ) (m : WaitingMessage) → answered n device p w ≡ accepted k at v m → ⊥
 answered_not_accepted n device p w k at v m is = cc
 
-asked_not_accepted : (n device id : ℕ) (vs : List Variable) (w : List ℕ) (k at : ℕ) (v : List ℕ) (m : WaitingMessage) → asked n device id vs w ≡ accepted k at v m → ⊥
-asked_not_accepted n device id vs w k at v m is = cc
+asked_not_accepted : (n device id : ℕ) (what : RequestPdu) (w : List ℕ) (k at : ℕ) (v : List ℕ) (m : WaitingMessage) → asked n device id what w ≡ accepted k at v m → ⊥
+asked_not_accepted n device id what w k at v m is = cc
 
 -- the community by which the request's device is asked
 pub community_for : (tables : Tables) (q : Question) (told : Said) (t : Task) (d : Device) (community : List ℕ) → TaskStands tables q told t → IsCommunityOfTask d community t → IsCommunityFor d q.tag community
 community_for tables q told (task.Read Get d) device community stands is = inl ((λ (same : q.tag ≡ pdu_tag SetRequest). let tag : q.tag ≡ pdu_tag GetRequest = stands.tag in omega (arith, same, tag)), is)
 community_for tables q told (task.Read GetNext d) device community stands is = inl ((λ (same : q.tag ≡ pdu_tag SetRequest). let tag : q.tag ≡ pdu_tag GetNextRequest = stands.tag in omega (arith, same, tag)), is)
-community_for tables q told (task.Bulk by d) device community stands is = inl ((λ (same : q.tag ≡ pdu_tag SetRequest). omega (arith, same, stands.tag)), is)
+community_for tables q told (task.Bulk by d) device community stands is = inl ((λ (same : q.tag ≡ pdu_tag SetRequest). omega (arith, same, stands.dialogue.tag)), is)
 community_for tables q told task.Set device community stands is = inr (stands.tag, is)
 
 open_of : (device id : ℕ) (w : Work) → WaitsFor device id w → (o : OpenRequest) × (w ≡ Open o) × (o.device ≡ device) × (o.asked ≡ Some id)
@@ -205,16 +206,17 @@ open_of device id (Open o) waits = (o, refl, waits.0, waits.1)
 open_of device id (Ends e) waits = absurd waits
 
 -- all that an answer says is told
-says_all : (n device id : ℕ) (vs : List Variable) (answer : Pdu) (datagram : List ℕ) (before : List Happening) → open_ask n before ≡ Some (record { device = device; id = id; variables = vs })
-    → SaysAll vs answer (told_in n (answered n device (pdu_of answer) datagram ∷ before))
-says_all n device id vs answer datagram before is =
+says_all : (n device id : ℕ) (what : RequestPdu) (answer : Pdu) (datagram : List ℕ) (before : List Happening) → open_ask n before ≡ Some (record { device = device; id = id; request = what })
+    → SaysAll what answer (told_in n (answered n device (pdu_of answer) datagram ∷ before))
+says_all n device id what answer datagram before is =
     let own = variables_of answer.list.now in
-    let ask : OpenAsk = record { device = device; id = id; variables = vs } in
+    let ask : OpenAsk = record { device = device; id = id; request = what } in
+    let vs = what.variables in
     let told = told_in n before in
     let full : more_said (Some ask) (pdu_of answer) told ≡ told_in n (answered n device (pdu_of answer) datagram ∷ before) =
     ap (λ (a : Option OpenAsk). more_said a (pdu_of answer) told) (sym is)
     ∙ sym (ap (λ (b : Bool). cond b (more_said (open_ask n before) (pdu_of answer) told) told) (same_number n)) in
-    let exchange : Exchange = record { asked = vs; answer = pdu_of answer } in
+    let exchange : Exchange = record { asked = what; answer = pdu_of answer } in
     record {
       bindings = subst (λ (all : Said). All (Contains all.variables) own) full
           (All-weaker (Contains own) (Contains (said_by (Some ask) (pdu_of answer) ++ told.variables))
@@ -256,7 +258,7 @@ group_in tables devices before next gs place g at stands = subst (GroupStands ta
 pub answered_all : (tables : Tables) (devices : List Device) (before : List Happening) (next : ℕ) (rs : List (WaitingRequest WaitingMessage Work)) (place : ℕ) (r : WaitingRequest WaitingMessage Work) (w : Work)
     (device id : ℕ) (answer : Pdu) (datagram community : List ℕ) → place < length rs → r ≡ slice_index_or rs place r → WaitsFor device id r.work → answer.id ≡ pos id → IsDeviceAnswer datagram community (pdu_of answer)
     → HoldsAt (λ (d : Device). IsCommunityOfWork d community r.work) devices device
-    → ((o : OpenRequest) (q : Question) (told : Said) → question_in r.first ≡ Some q → r.work ≡ Open o → SaysAll (variables_of_task q o.task.task) answer told → TaskStands tables q told o.task.task → WorkAfter tables q told o w)
+    → ((o : OpenRequest) (q : Question) (told : Said) → question_in r.first ≡ Some q → r.work ≡ Open o → SaysAll (request_of_task q o.task.task) answer told → TaskStands tables q told o.task.task → WorkAfter tables q told o w)
     → GroupsStand tables devices before next (groups_of rs)
     → IsAnswerOf devices before r.number device (pdu_of answer) datagram
     × GroupsStand tables devices (answered r.number device (pdu_of answer) datagram ∷ before) next (groups_of (slice_set rs place (record { number = r.number; first = r.first; others = r.others; work = w })))
@@ -272,7 +274,7 @@ answered_all tables devices before next rs place r w device id answer datagram c
     let asks = open_stands.asked id open_is.3 in
     let first = All-head (λ (m : WaitingMessage). question_in m ≡ Some q) r.first r.others.items group.asks in
     let told = told_in n (now ∷ before) in
-    let after_now = after o q told first open_is.1 (says_all n o.device id (variables_of_task q o.task.task) answer datagram before asks)
+    let after_now = after o q told first open_is.1 (says_all n o.device id (request_of_task q o.task.task) answer datagram before asks)
     (task_more tables q (told_in n before) told o.task.task (told_more n device (pdu_of answer) datagram before) open_stands.task) in
     let new : WaitingRequest WaitingMessage Work = record { number = n; first = r.first; others = r.others; work = w } in
     let new_stands : GroupStands tables devices (now ∷ before) (group_of new) = record {
@@ -286,7 +288,7 @@ answered_all tables devices before next rs place r w device id answer datagram c
           (chosen n 0 (asks_since n before)) after_now;
     } in (
       record {
-        ask = record { device = o.device; id = id; variables = variables_of_task q o.task.task };
+        ask = record { device = o.device; id = id; request = request_of_task q o.task.task };
         is_open = asks;
         device_is = open_is.2;
         id_is = id_is;
@@ -315,10 +317,19 @@ one_head a b xs ys is = cc
 same_some : {A : Type 0} (a b : A) → Some a ≡ Some b → a ≡ b
 same_some a b is = cc
 
+-- as much is told as before
+asked_has : (n device id : ℕ) (what : RequestPdu) (datagram : List ℕ) (before : List Happening) → HasAll (told_in n before) (told_in n (asked n device id what datagram ∷ before))
+asked_has n device id what datagram before =
+    let told = told_in n before in
+    record {
+      variables = λ v there. subst (λ (b : Bool). Contains (cond b (asked_more what told) told).variables v) (sym (same_number n)) there;
+      exchanges = λ e there. subst (λ (b : Bool). Contains (cond b (asked_more what told) told).exchanges e) (sym (same_number n)) there;
+    }
+
 pub record AsksAll (agent : AgentState) (devices : List Device) (before : List Happening) (next number device id : ℕ) (datagram : List ℕ) (gs : List Waiting) : Type 0 where
-  pub variables : List Variable
-  pub mediated : IsMediated agent devices before (asked number device id variables datagram)
-  pub stands : GroupsStand agent.tables devices (asked number device id variables datagram ∷ before) next gs
+  pub request : RequestPdu
+  pub mediated : IsMediated agent devices before (asked number device id request datagram)
+  pub stands : GroupsStand agent.tables devices (asked number device id request datagram ∷ before) next gs
 
 -- what is known of a request that may be asked
 pub record AskedSoFar (before : List Happening) (number place : ℕ) (rs : Requests) : Type 0 where
@@ -356,22 +367,23 @@ asked_all agent devices before next rs new place device number id datagram withi
     let on = is_open.1.2 in
     let open_stands : OpenStands tables devices before r.number q o = subst (λ (x : Work). WorkStands tables devices before r.number q x) work_is group.work in
     let by = asked_by tables devices before r group in
-    let vs = variables_of_task q o.task.task in
+    let what = request_of_task q o.task.task in
     let may_ask = subst (λ (x : WaitingRequest WaitingMessage Work). (p : OpenRequest) (c : Question) (told : Said) → x.work ≡ Open p → question_in x.first ≡ Some c → TaskStands tables c told p.task.task
-    → HoldsAt (λ (d : Device). MayAskFor tables d c told id (variables_of_task c p.task.task) datagram.items) devices device) (sym sets.is) (may r) in
-    let now = asked r.number device id vs datagram.items in
+    → HoldsAt (λ (d : Device). MayAskFor tables d c told id (request_of_task c p.task.task) datagram.items) devices device) (sym sets.is) (may r) in
+    let now = asked r.number device id what datagram.items in
     let a = sets.asked o work_is in
-    let task : variables_of_task q a.0.task.task ≡ vs = ap (λ (t : NamedTask). variables_of_task q t.task) a.2 in
+    let task : request_of_task q a.0.task.task ≡ what = ap (λ (t : NamedTask). request_of_task q t.task) a.2 in
     let a_stands : OpenStands tables devices (now ∷ before) r.number q a.0 = record {
-      task = subst (λ (t : NamedTask). TaskStands tables q (told_in r.number before) t.task) (sym a.2) open_stands.task;
+      task = subst (λ (t : NamedTask). TaskStands tables q (told_in r.number (now ∷ before)) t.task) (sym a.2)
+          (task_more tables q (told_in r.number before) (told_in r.number (now ∷ before)) o.task.task (asked_has r.number device id what datagram.items before) open_stands.task);
       device = subst (IsDeviceOf devices q.context) (sym a.3) open_stands.device;
       asked = λ other is.
           let one = same_some id other (sym a.4 ∙ is) in
-          let first : open_ask r.number (now ∷ before) ≡ Some (record { device = device; id = id; variables = vs }) =
-          ap (λ (b : Bool). cond b (Some (record { device = device; id = id; variables = vs })) (open_ask r.number before)) (same_number r.number) in
-          first ∙ (λ i. Some (record { device = sym (a.3 ∙ on) i; id = one i; variables = sym task i }));
+          let first : open_ask r.number (now ∷ before) ≡ Some (record { device = device; id = id; request = what }) =
+          ap (λ (b : Bool). cond b (Some (record { device = device; id = id; request = what })) (open_ask r.number before)) (same_number r.number) in
+          first ∙ (λ i. Some (record { device = sym (a.3 ∙ on) i; id = one i; request = sym task i }));
       set_once = λ set none was. absurd (none_is_some id (sym none ∙ a.4));
-      came = came_later now before r.number a.0.timer.began (λ at w m same. absurd (asked_not_accepted r.number device id vs datagram.items r.number at w m same))
+      came = came_later now before r.number a.0.timer.began (λ at w m same. absurd (asked_not_accepted r.number device id what datagram.items r.number at w m same))
           (subst (AllCameFrom before r.number) (sym a.5) open_stands.came);
       unasked = λ none. absurd (none_is_some id (sym none ∙ a.4));
       tried =
@@ -384,12 +396,12 @@ asked_all agent devices before next rs new place device number id datagram withi
       asks = group.asks;
       are_accepted = All-weaker (IsAccepted before r.number) (IsAccepted (now ∷ before) r.number) (later now before r.number) (group_of r).messages group.are_accepted;
       wait = group.wait;
-      one = ask_later now before r.number q (λ at w m same. absurd (asked_not_accepted r.number device id vs datagram.items r.number at w m same)) group.one;
+      one = ask_later now before r.number q (λ at w m same. absurd (asked_not_accepted r.number device id what datagram.items r.number at w m same)) group.one;
       work = subst (λ (x : Work). WorkStands tables devices (now ∷ before) r.number q x) (sym a.1) a_stands;
     } in
     let groups_are : groups_of new ≡ slice_set (groups_of rs) place (group_of h) = ap (λ (xs : Requests). groups_of xs) sets.new_is ∙ groups_set rs place h in
     subst (λ (n : ℕ). AsksAll agent devices before next n device id datagram.items (groups_of new)) is_open.0 (record {
-      variables = vs;
+      request = what;
       mediated = (q, by, subst (IsDeviceOf devices q.context) on open_stands.device, may_ask o q (told_in r.number before) work_is by.asks open_stands.task);
       stands = record {
         all = subst (λ (gs : List Waiting). All (GroupStands tables devices (now ∷ before)) gs) (sym groups_are)
@@ -624,4 +636,4 @@ given_up_ends tables _ is q told = absurd is
 
 -- tooBig may be told of any request
 pub too_long : (tables : Tables) (q : Question) (told : Said) → EndingStands tables q told (ending.Own (record { status = TOO_BIG; index = pos 0 }))
-too_long tables q told is = absurd (false≢true ((Decides-int_eq TOO_BIG NO_ERROR).1 is))
+too_long tables q told = record { no_error = λ is. absurd (false≢true ((Decides-int_eq TOO_BIG NO_ERROR).1 is)); set = λ is_set. inl refl }

@@ -21,7 +21,8 @@ use Rattle.snmp_gate.specs.declared.work.Work.{Work}
 use Rattle.snmp_gate.specs.declared.work.Work.TheVariants.{Open, Ends}
 use Rattle.snmp_gate.proofs.GroupSteps.{group_at}
 use Rattle.snmp_gate.proofs.Histories.{CameBy, Waiting, all_set, below_next, group_in, later, numbered_set, numbers_back, others_later, past_later, work_later}
-use Rattle.snmp_gate.proofs.Others.{ask_later, chosen, contains_cons, none_asked, none_happened, none_waits, wait_other, was_before}
+use Rattle.snmp_gate.specs.Said.{IsUnasked, Said}
+use Rattle.snmp_gate.proofs.Others.{none_told, ask_later, chosen, contains_cons, none_asked, none_happened, none_waits, wait_other, was_before}
 use Rattle.snmp_gate.proofs.Questions.{numbered_begun}
 use Rattle.std.proofs.lemmas.List.{get_or_default}
 use Rattle.snmp_gate.proofs.Asked.{none_is_some}
@@ -107,9 +108,9 @@ pub request_asks : (tables : Tables) (devices : List Device) (before : List Happ
     → GroupsStand tables devices before next (groups_of rs) → GroupStands tables devices before (group_of r)
 request_asks tables devices before next rs place r within is stands = group_in tables devices before next (groups_of rs) place (group_of r) (group_at rs place r within is) stands
 
-begins_well : (tables : Tables) (devices : List Device) (before : List Happening) (n : ℕ) (q : Question) (w : Work) → ¬ WasAsked before n → ((at : ℕ) (v : List ℕ) (m : WaitingMessage) → Contains before (accepted n at v m) → CameBy at w) → asks_since n before ≡ 0 → BeginsWell tables devices q w → WorkStands tables devices before n q w
-begins_well tables devices before n q (Open o) never came since well = record {
-  task = well.0 (told_in n before);
+begins_well : (tables : Tables) (devices : List Device) (before : List Happening) (n : ℕ) (q : Question) (w : Work) → ¬ WasAsked before n → ((at : ℕ) (v : List ℕ) (m : WaitingMessage) → Contains before (accepted n at v m) → CameBy at w) → asks_since n before ≡ 0 → IsUnasked (told_in n before) → BeginsWell tables devices q w → WorkStands tables devices before n q w
+begins_well tables devices before n q (Open o) never came since nothing well = record {
+  task = well.0 (told_in n before) nothing;
   device = well.1;
   asked = λ id is. absurd (none_is_some id (sym well.2 ∙ is));
   set_once = λ set none. never;
@@ -117,7 +118,7 @@ begins_well tables devices before n q (Open o) never came since well = record {
   unasked = λ none. since;
   tried = omega (arith, since);
 }
-begins_well tables devices before n q (Ends e) never came since well = well (told_in n before)
+begins_well tables devices before n q (Ends e) never came since nothing well = well (told_in n before) nothing
 
 new_by : (at : ℕ) (w : Work) → IsNew at w → CameBy at w
 new_by at (Open o) is = omega (arith, is.2)
@@ -126,7 +127,7 @@ new_by at (Ends e) is = tt
 never_asked : (next at : ℕ) (datagram : List ℕ) (m : WaitingMessage) (before : List Happening) → All (λ (e : Happening). number_of e < next) before → ¬ WasAsked (accepted next at datagram m ∷ before) next
 never_asked next at datagram m before past was =
     let old = was_before (accepted next at datagram m) before next (λ d id vs w is. let wrong : accepted next at datagram m ≡ asked next d id vs w = is in cc) was in
-    none_happened before next (asked next old.device old.id old.variables old.datagram) past old.there refl
+    none_happened before next (asked next old.device old.id old.request old.datagram) past old.there refl
 
 pub begun_all : (tables : Tables) (devices : List Device) (before : List Happening) (next after : ℕ) (gs new : List Waiting) (m : WaitingMessage) (q : Question) (w : Work) (at : ℕ) (datagram : List ℕ) → question_in m ≡ Some q
     → BeginsWell tables devices q w → IsNew at w → new ≡ gs ++ begun next m w ∷ [] → after ≡ suc next → GroupsStand tables devices before next gs → GroupsStand tables devices (accepted next at datagram m ∷ before) after new
@@ -149,7 +150,7 @@ begun_all tables devices before next after gs new m q w at datagram asks well is
                 (λ then v x there. elim (contains_cons now before (accepted next then v x) there) [
                   | inl is ↦ subst (λ (t : ℕ). CameBy t w) (same_moment next at datagram m next then v x is) (new_by at w is_new)
                   | inr old ↦ absurd (none_happened before next (accepted next then v x) stands.past old refl)
-                ]) (none_asked before next stands.past) well;
+                ]) (none_asked before next stands.past) (ap (λ (said : Said). said.asked) (none_told before next stands.past)) well;
           });
       numbered = record { rise = numbered.rise; less = numbered.below };
       past = past_later now before (suc next) (omega arith) (All-weaker (λ (e : Happening). number_of e < next) (λ (e : Happening). number_of e < suc next) (λ e lt. omega (arith, lt)) before stands.past);

@@ -34,3 +34,4 @@ pub mod Dues
 pub mod Bounded
 pub mod Todos
 pub mod AtOnce
+pub mod Through

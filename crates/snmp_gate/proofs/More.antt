@@ -29,9 +29,9 @@ pub record HasAll (told more : Said) : Type 0 where
   pub exchanges : (e : Exchange) → Contains told.exchanges e → Contains more.exchanges e
 
 -- what is true of all is true of these
-fewer_true : (device : Known) (o : ReadOperation) (told more : Said) → HasAll told more → AreTrue device o more → AreTrue device o told
-fewer_true device o told more has truly k d within =
-    All-contains (IsTrueExchange device o) more.exchanges (slice_index_or told.exchanges k d) truly (has.exchanges (slice_index_or told.exchanges k d) (Contains-get_or told.exchanges k d within))
+fewer_true : (device : Known) (told more : Said) → HasAll told more → AreTrue device more → AreTrue device told
+fewer_true device told more has truly k d within =
+    All-contains (IsTrueExchange device) more.exchanges (slice_index_or told.exchanges k d) truly (has.exchanges (slice_index_or told.exchanges k d) (Contains-get_or told.exchanges k d within))
 
 module _ (Seen : List ℕ → Type 0) (told more : List Variable) (has : HasVariables told more) where
   at_more : (first name : List ℕ) → StandsAt first told name → StandsAt first more name
@@ -80,15 +80,19 @@ task_more tables q told more (task.Read operation d) has stands = record {
   tag = stands.tag;
   requests_are = stands.requests_are;
   stand = columns_more (seen_in tables q) told.variables more.variables has.variables d.columns.items stands.stand;
-  tracks = λ device plain truly. stands.tracks device plain (fewer_true device operation told more has truly);
+  tracks = λ device plain truly. stands.tracks device plain (fewer_true device told more has truly);
 }
-task_more tables q told more (task.Bulk by d) has stands = record {
-  tag = stands.tag;
-  non_repeaters = stands.non_repeaters;
-  first = stands.first;
-  max_repetitions = stands.max_repetitions;
-  most = stands.most;
-  requests_are = stands.requests_are;
-  stand = bulk_more (seen_in tables q) told.variables more.variables has.variables d.columns.items stands.stand;
-}
+task_more tables q told more (task.Bulk by d) has stands =
+    let known = stands.dialogue in record {
+      dialogue = record {
+        tag = known.tag;
+        first = known.first;
+        most = known.most;
+        requests_are = known.requests_are;
+        few = known.few;
+        stand = bulk_more (seen_in tables q) told.variables more.variables has.variables d.columns.items known.stand;
+        tracks = λ device plain truly. known.tracks device plain (fewer_true device told more has truly);
+      };
+      asked = stands.asked;
+    }
 task_more tables q told more task.Set has stands = stands

@@ -12,7 +12,7 @@ use Rattle.snmp_gate.specs.History.{Happening, IsMediated, MayAskFor, accepted, 
 use Rattle.snmp_gate.specs.Lawful.{AreLawful, IsLawful}
 use Rattle.snmp_gate.specs.Replies.{IsAnswerTo, SameAgent}
 use Rattle.snmp_gate.specs.Runs.{Event, IsHistoryOf, IsRun, accepted_for, asked_in, client_comes, device_comes, ended_for, finds_no_memory, goes_out, moment_of, sent_in, to_clients, to_devices}
-use Rattle.snmp_gate.specs.Waiting.{ClientHappens, DeviceHappens, GateStands, Happens, SendHappens, Stays}
+use Rattle.snmp_gate.specs.Waiting.{ClientHappens, DeviceHappens, Fresh, GateStands, Happens, SendHappens, Stays}
 use Rattle.snmp_gate.specs.declared.devices.Device.{Device}
 use Rattle.snmp_gate.specs.declared.devices.Devices.{Devices}
 use Rattle.snmp_gate.specs.declared.gate.ClientTaken.{ClientTaken}
@@ -35,9 +35,9 @@ mediated_same a b devices others before (accepted n now w m) same d is =
     (subst (λ (boots : ℕ). Outcome (taker_of (record a { engine = b.engine; boots = boots })) a.users (now / 1000) w (Ok m.kept)) same.boots
     (subst (λ (started : ℕ). Outcome (taker_of (record a { engine = b.engine; boots = b.boots; started = started })) a.users (now / 1000) w (Ok m.kept)) same.started
     (subst (λ users. Outcome (taker_of b) users (now / 1000) w (Ok m.kept)) same.users is)))
-mediated_same a b devices others before (asked n to id vs w) same d is =
-    subst (λ (ds : List Device). IsMediated a ds before (asked n to id vs w)) d
-    (is.0, is.1, is.2, subst (λ (t : Tables). HoldsAt (λ (x : Device). MayAskFor t x is.0 (told_in n before) id vs w) others to) same.tables is.3)
+mediated_same a b devices others before (asked n to id what w) same d is =
+    subst (λ (ds : List Device). IsMediated a ds before (asked n to id what w)) d
+    (is.0, is.1, is.2, subst (λ (t : Tables). HoldsAt (λ (x : Device). MayAskFor t x is.0 (told_in n before) id what w) others to) same.tables is.3)
 mediated_same a b devices others before (answered n to p w) same d is = subst (λ (ds : List Device). IsMediated a ds before (answered n to p w)) d is
 mediated_same a b devices others before (sent n m by w) same d is =
     (is.0, λ q asks. subst (λ (t : Tables). IsAnswerTo by t q (told_in n before) m.kept w) same.tables (is.1 q asks))
@@ -114,41 +114,41 @@ device_stands first middle last now number w (device.Answers n) events known sta
 device_stands first middle last now number w device.Unreadable events known stays happens = record { history = known.history; is = record { lawful = known.is.lawful; devices = known.is.devices; clients = known.is.clients }; stands = happens; stays = stays_on first middle last known.stays stays; keeps = known.keeps }
 device_stands first middle last now number w device.NotWaitedFor events known stays happens = record { history = known.history; is = record { lawful = known.is.lawful; devices = known.is.devices; clients = known.is.clients }; stands = happens; stays = stays_on first middle last known.stays stays; keeps = known.keeps }
 
-send_stands : (first middle last : Gate) (now : ℕ) (salt : List ℕ) (what : Sent) (events : List Event) (known : RunStands first events middle) → Stays middle last → SendHappens middle now known.history salt what last → RunStands first (goes_out now salt what ∷ events) last
-send_stands first middle last now salt (out.ToClient n to w) events known stays happens =
-    let e = sent n happens.0 (record { agent = middle.agent; now = now / 1000; salt = salt }) w.items in record {
+send_stands : (first middle last : Gate) (now : ℕ) (f : Fresh) (what : Sent) (events : List Event) (known : RunStands first events middle) → Stays middle last → SendHappens middle now known.history f what last → RunStands first (goes_out now f what ∷ events) last
+send_stands first middle last now f (out.ToClient n to w) events known stays happens =
+    let e = sent n happens.0 (record { agent = middle.agent; now = now / 1000; salt = f.salt }) w.items in record {
       history = e ∷ known.history;
-      is = happened first middle last now e known.history events (goes_out now salt (out.ToClient n to w)) known.stays known.is happens.2 known.is.devices
+      is = happened first middle last now e known.history events (goes_out now f (out.ToClient n to w)) known.stays known.is happens.2 known.is.devices
           (λ i. ((happens.1 i).items, w.items) ∷ known.is.clients i);
       stands = happens.2.stands;
       stays = stays_on first middle last known.stays stays;
       keeps = λ b. (keeps_more first last now (e ∷ known.history) (stays_on first middle last known.stays stays) happens.2.stands b, tried_few first middle known.history e known.stays happens.2.tried, known.keeps b);
     }
-send_stands first middle last now salt (out.ToDevice n to w) events known stays happens =
+send_stands first middle last now f (out.ToDevice n to w) events known stays happens =
     let e = asked n to happens.0 happens.1 w.items in record {
       history = e ∷ known.history;
-      is = happened first middle last now e known.history events (goes_out now salt (out.ToDevice n to w)) known.stays known.is happens.2 (λ i. (to, w.items) ∷ known.is.devices i) known.is.clients;
-      stands = happens.2.stands;
+      is = happened first middle last now e known.history events (goes_out now f (out.ToDevice n to w)) known.stays known.is happens.3 (λ i. (to, w.items) ∷ known.is.devices i) known.is.clients;
+      stands = happens.3.stands;
       stays = stays_on first middle last known.stays stays;
-      keeps = λ b. (keeps_more first last now (e ∷ known.history) (stays_on first middle last known.stays stays) happens.2.stands b, tried_few first middle known.history e known.stays happens.2.tried, known.keeps b);
+      keeps = λ b. (keeps_more first last now (e ∷ known.history) (stays_on first middle last known.stays stays) happens.3.stands b, tried_few first middle known.history e known.stays happens.3.tried, known.keeps b);
     }
-send_stands first middle last now salt (out.Unanswered n why) events known stays happens =
+send_stands first middle last now f (out.Unanswered n why) events known stays happens =
     let e = unanswered n happens.0 in record {
       history = e ∷ known.history;
-      is = happened first middle last now e known.history events (goes_out now salt (out.Unanswered n why)) known.stays known.is happens.1 known.is.devices known.is.clients;
+      is = happened first middle last now e known.history events (goes_out now f (out.Unanswered n why)) known.stays known.is happens.1 known.is.devices known.is.clients;
       stands = happens.1.stands;
       stays = stays_on first middle last known.stays stays;
       keeps = λ b. (keeps_more first last now (e ∷ known.history) (stays_on first middle last known.stays stays) happens.1.stands b, tried_few first middle known.history e known.stays happens.1.tried, known.keeps b);
     }
-send_stands first middle last now salt (out.GivenUp n to) events known stays happens =
+send_stands first middle last now f (out.GivenUp n to) events known stays happens =
     let e = given_up n to in record {
       history = e ∷ known.history;
-      is = happened first middle last now e known.history events (goes_out now salt (out.GivenUp n to)) known.stays known.is happens known.is.devices known.is.clients;
+      is = happened first middle last now e known.history events (goes_out now f (out.GivenUp n to)) known.stays known.is happens known.is.devices known.is.clients;
       stands = happens.stands;
       stays = stays_on first middle last known.stays stays;
       keeps = λ b. (keeps_more first last now (e ∷ known.history) (stays_on first middle last known.stays stays) happens.stands b, tried_few first middle known.history e known.stays happens.tried, known.keeps b);
     }
-send_stands first middle last now salt out.Nothing events known stays happens = record { history = known.history; is = record { lawful = known.is.lawful; devices = known.is.devices; clients = known.is.clients }; stands = happens; stays = stays_on first middle last known.stays stays; keeps = known.keeps }
+send_stands first middle last now f out.Nothing events known stays happens = record { history = known.history; is = record { lawful = known.is.lawful; devices = known.is.devices; clients = known.is.clients }; stands = happens; stays = stays_on first middle last known.stays stays; keeps = known.keeps }
 
 pub run_stands : (first : Gate) (events : List Event) (last : Gate) → GateStands 0 [] first → IsRun first events last → RunStands first events last
 run_stands first [] last stands run = subst (RunStands first []) (sym run) (record {
@@ -164,9 +164,9 @@ run_stands first (client_comes now from w taken ∷ events) last stands run =
 run_stands first (device_comes now number w taken ∷ events) last stands run =
     let known = run_stands first events run.1.0 stands run.1.1 in
     device_stands first run.1.0 last now number w taken events known run.1.2.0 (run.1.2.1 (moment_of events) known.history run.0 known.stands)
-run_stands first (goes_out now salt what ∷ events) last stands run =
+run_stands first (goes_out now f what ∷ events) last stands run =
     let known = run_stands first events run.1.0 stands run.1.1 in
-    send_stands first run.1.0 last now salt what events known run.1.2.0 (run.1.2.2 (moment_of events) known.history run.0 known.stands)
+    send_stands first run.1.0 last now f what events known run.1.2.0 (run.1.2.2 (moment_of events) known.history run.0 known.stands)
 run_stands first (finds_no_memory now ∷ events) last stands run =
     let known = run_stands first events run.1.0 stands run.1.1 in record {
       history = known.history;
@@ -181,14 +181,14 @@ pub run_keeps : (first : Gate) (events : List Event) (last : Gate) → IsRun fir
 run_keeps first [] last run = subst (Stays first) (sym run) (stays_same first)
 run_keeps first (client_comes now from w taken ∷ events) last run = stays_on first run.1.0 last (run_keeps first events run.1.0 run.1.1) run.1.2.0
 run_keeps first (device_comes now number w taken ∷ events) last run = stays_on first run.1.0 last (run_keeps first events run.1.0 run.1.1) run.1.2.0
-run_keeps first (goes_out now salt what ∷ events) last run = stays_on first run.1.0 last (run_keeps first events run.1.0 run.1.1) run.1.2.0
+run_keeps first (goes_out now f what ∷ events) last run = stays_on first run.1.0 last (run_keeps first events run.1.0 run.1.1) run.1.2.0
 run_keeps first (finds_no_memory now ∷ events) last run = stays_on first run.1.0 last (run_keeps first events run.1.0 run.1.1) run.1.2
 
 -- after `next` returned nothing, no message waits for long
-pub run_in_time : (first last : Gate) (now : ℕ) (salt : List ℕ) (events : List Event) (stands : GateStands 0 [] first) (bounded : IsBounded first) (run : IsRun first (goes_out now salt out.Nothing ∷ events) last)
-    → WaitInTime first.limits now (run_stands first (goes_out now salt out.Nothing ∷ events) last stands run).history
-run_in_time first last now salt events stands bounded run =
-    let known = run_stands first (goes_out now salt out.Nothing ∷ events) last stands run in
+pub run_in_time : (first last : Gate) (now : ℕ) (f : Fresh) (events : List Event) (stands : GateStands 0 [] first) (bounded : IsBounded first) (run : IsRun first (goes_out now f out.Nothing ∷ events) last)
+    → WaitInTime first.limits now (run_stands first (goes_out now f out.Nothing ∷ events) last stands run).history
+run_in_time first last now f events stands bounded run =
+    let known = run_stands first (goes_out now f out.Nothing ∷ events) last stands run in
     let own = known.stays.bounded bounded in
     subst (λ (l : GateLimits). WaitInTime l now known.history) known.stays.limits
     (wait_in_time last.agent.tables last.limits now known.history last.devices.list.items last.requests known.stands.requests own.requests (run.1.2.1 refl))
@@ -234,7 +234,7 @@ accepted_turn n k m before same = elim (eqb_tells n k) [
 pub ended_in_turn : (agent : AgentState) (devices : List Device) (n : ℕ) (history : List Happening) → AreLawful agent devices history → ended_for n history ++ waiting_in n history ≡ accepted_for n history
 ended_in_turn agent devices n [] lawful = refl
 ended_in_turn agent devices n (accepted k now w m ∷ before) lawful = accepted_turn n k m before (ended_in_turn agent devices n before lawful.1)
-ended_in_turn agent devices n (asked k d id vs w ∷ before) lawful = ended_in_turn agent devices n before lawful.1
+ended_in_turn agent devices n (asked k d id what w ∷ before) lawful = ended_in_turn agent devices n before lawful.1
 ended_in_turn agent devices n (answered k d p w ∷ before) lawful = ended_in_turn agent devices n before lawful.1
 ended_in_turn agent devices n (sent k m by w ∷ before) lawful = ended_turn n k m before lawful.0.in_turn.0 lawful.0.in_turn.1 (ended_in_turn agent devices n before lawful.1)
 ended_in_turn agent devices n (unanswered k m ∷ before) lawful = ended_turn n k m before lawful.0.in_turn.0 lawful.0.in_turn.1 (ended_in_turn agent devices n before lawful.1)

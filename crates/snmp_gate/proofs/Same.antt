@@ -1,10 +1,18 @@
 -- Requests that stay what they were, where memory runs out.
-use Rattle.std.specs.Prelude.{◌≤◌, ◌-◌, ◌^◌, min, ◌≡◌, ◌<◌, ◌∷◌, ◌++◌, ℕ, List, [], All, Some, length, map, slice_index_or, slice_set}
-use Rattle.std.proofs.Common.{refl, sym, ap, subst, ◌∙◌}
+use Rattle.std.specs.Prelude.{◌≤◌, ◌-◌, ◌^◌, min, ◌≡◌, ◌<◌, ◌∷◌, ◌++◌, ℕ, zero, suc, List, [], All, Some, drop, length, map, slice_index_or, slice_set, take}
+use Rattle.std.specs.List.{flat_map}
+use Rattle.std.proofs.Common.{refl, sym, ap, arith, inl, inr, subst, ◌∙◌}
+use Rattle.std.proofs.lemmas.List.{length-append}
 use Rattle.std.proofs.Math.Seq.{map-set_same}
-use Rattle.snmp_msg.specs.Variables.{Variable}
+use Rattle.snmp_msg.specs.Variables.{Variable, variables_of}
 use Rattle.vacm_core.specs.Tables.{Tables}
 use Rattle.snmp_walk.specs.BulkAnswer.{AllSaySame}
+use Rattle.snmp_walk.specs.BulkAsk.{IsAskOf, asked_of}
+use Rattle.snmp_walk.specs.BulkDialogue.{IsCountOf, bulk_requests_of}
+use Rattle.snmp_walk.specs.Turns.{turn_in}
+use Rattle.snmp_walk.specs.declared.bulk_ask.BulkAsk.{BulkAsk}
+use Rattle.snmp_walk.specs.declared.bulk_ask.BulkAsk.TheVariants as way
+use Rattle.gateway_laws.proofs.BulkTrueRuns.{all_say}
 use Rattle.snmp_walk.specs.BulkColumn.{BulkStands}
 use Rattle.snmp_walk.specs.declared.bulk_column.BulkColumn.{BulkColumn}
 use Rattle.snmp_walk.specs.declared.bulk_dialogue.BulkDialogue.{BulkDialogue}
@@ -20,11 +28,11 @@ use Rattle.snmp_gate.specs.History.{Happening, told_in}
 use Rattle.snmp_gate.specs.Messages.{seen_in}
 use Rattle.snmp_gate.specs.Noting.{AsksSet}
 use Rattle.snmp_gate.specs.Question.{Question}
-use Rattle.snmp_gate.specs.ReadAsks.{bulk_variables_asked, variables_in}
+use Rattle.snmp_gate.specs.ReadAsks.{bulk_type, bulk_variables_asked, max_repetitions_in, non_repeaters_in, variables_in}
 use Rattle.snmp_gate.specs.Sending.{Requests}
 use Rattle.snmp_gate.specs.Taking.{BulkSaysSame, OpenSaysSame, TaskSaysSame, WorkSaysSame}
 use Rattle.snmp_gate.specs.Waiting.{AllCameFrom, GroupStands, GroupsStand, OpenStands, WorkStands, messages_in}
-use Rattle.snmp_gate.specs.Work.{BulkStandsFor, TaskStands, variables_of_task}
+use Rattle.snmp_gate.specs.Work.{BulkStandsFor, IsAskedBy, TaskStands, request_of_task}
 use Rattle.snmp_gate.specs.declared.devices.Device.{Device}
 use Rattle.snmp_gate.specs.declared.requests.WaitingRequest.{WaitingRequest}
 use Rattle.snmp_gate.specs.declared.task.Task.{Task}
@@ -59,29 +67,92 @@ columns_ask (o ∷ os) [] zip = absurd zip
 columns_ask (o ∷ os) (n ∷ ns) zip = λ i. variables_in (zip.0.progress i) ++ columns_ask os ns zip.1 i
 
 bulk_stands_same : (tables : Tables) (q : Question) (told : Said) (old new : BulkDialogue) → BulkSaysSame old new → BulkStandsFor tables q told old → BulkStandsFor tables q told new
-bulk_stands_same tables q told old new same stands = record {
-  tag = stands.tag;
-  non_repeaters = stands.non_repeaters;
-  first = stands.first;
-  max_repetitions = stands.max_repetitions;
-  most = stands.most;
-  requests_are = same.requests ∙ stands.requests_are;
-  stand = columns_stand (seen_in tables q) told.variables old.columns.items new.columns.items same.says.columns stands.stand;
+bulk_stands_same tables q told old new same stands =
+    let limits = same.says.limits in record {
+      tag = stands.tag;
+      first = subst (IsCountOf q.second) (sym limits.non_repeaters) stands.first;
+      most = subst (IsCountOf q.third) (sym limits.max_repetitions) stands.most;
+      requests_are = same.requests ∙ stands.requests_are ∙ (λ i. bulk_requests_of (sym limits.non_repeaters i) (sym limits.max_repetitions i) (variables_of q.list));
+      few = stands.few;
+      stand = columns_stand (seen_in tables q) told.variables old.columns.items new.columns.items same.says.columns stands.stand;
+      tracks = λ device plain truly. all_say device (seen_in tables q) old.columns.items new.columns.items same.says.columns (stands.tracks device plain truly);
+    }
+
+-- as many columns are asked
+first_asked : (n : ℕ) (olds news : List BulkColumn) → AllSaySame olds news → asked_of (take n news) ≡ asked_of (take n olds)
+first_asked zero olds news zip = refl
+first_asked (suc n) [] [] zip = refl
+first_asked (suc n) [] (new ∷ news) zip = absurd zip
+first_asked (suc n) (old ∷ olds) [] zip = absurd zip
+first_asked (suc n) (old ∷ olds) (new ∷ news) zip =
+    let rest = first_asked n olds news zip.1 in
+    let turns : BulkColumn → List ℕ = λ c. turn_in 0 c.progress in
+    omega (
+      arith,
+      length-append (turn_in 0 new.progress) (flat_map turns (take n news)),
+      length-append (turn_in 0 old.progress) (flat_map turns (take n olds)),
+      ap (λ (p : Progress). length (turn_in 0 p)) zip.0.progress,
+      rest,
+    )
+
+all_asked : (olds news : List BulkColumn) → AllSaySame olds news → asked_of news ≡ asked_of olds
+all_asked [] [] zip = refl
+all_asked [] (new ∷ news) zip = absurd zip
+all_asked (old ∷ olds) [] zip = absurd zip
+all_asked (old ∷ olds) (new ∷ news) zip =
+    let rest = all_asked olds news zip.1 in
+    let turns : BulkColumn → List ℕ = λ c. turn_in 0 c.progress in
+    omega (
+      arith,
+      length-append (turn_in 0 new.progress) (flat_map turns news),
+      length-append (turn_in 0 old.progress) (flat_map turns olds),
+      ap (λ (p : Progress). length (turn_in 0 p)) zip.0.progress,
+      rest,
+    )
+
+others_asked : (n : ℕ) (olds news : List BulkColumn) → AllSaySame olds news → asked_of (drop n news) ≡ asked_of (drop n olds)
+others_asked zero [] [] zip = refl
+others_asked zero [] (new ∷ news) zip = absurd zip
+others_asked zero (old ∷ olds) [] zip = absurd zip
+others_asked zero (old ∷ olds) (new ∷ news) zip = all_asked (old ∷ olds) (new ∷ news) zip
+others_asked (suc n) [] [] zip = refl
+others_asked (suc n) [] (new ∷ news) zip = absurd zip
+others_asked (suc n) (old ∷ olds) [] zip = absurd zip
+others_asked (suc n) (old ∷ olds) (new ∷ news) zip = others_asked n olds news zip.1
+
+ask_same : (n due : ℕ) (olds news : List BulkColumn) (by : BulkAsk) → AllSaySame olds news → IsAskOf n due olds by → IsAskOf n due news by
+ask_same n due olds news way.GetNext zip (inl none) = inl (others_asked n olds news zip ∙ none)
+ask_same n due olds news way.GetNext zip (inr one) = inr one
+ask_same n due olds news (way.GetBulk singles repetitions) zip asks = (omega (arith, others_asked n olds news zip, asks.0), asks.1, asks.2 ∙ sym (first_asked n olds news zip), asks.3)
+
+asked_by_same : (old new : BulkDialogue) (by : BulkAsk) → BulkSaysSame old new → IsAskedBy old by → IsAskedBy new by
+asked_by_same old new by same asked = record {
+  ask = same.says.ask ∙ asked.ask;
+  repetitions = asked.repetitions;
+  columns = subst (λ (n : ℕ). IsAskOf n asked.repetitions new.columns.items by) (sym same.says.limits.non_repeaters) (ask_same old.non_repeaters asked.repetitions old.columns.items new.columns.items by same.says.columns asked.columns);
 }
 
 task_stands_same : (tables : Tables) (q : Question) (told : Said) (old new : Task) → TaskSaysSame old new → TaskStands tables q told old → TaskStands tables q told new
 task_stands_same tables q told (task.Read o d) new same stands = subst (TaskStands tables q told) (sym same) stands
 task_stands_same tables q told task.Set new same stands = subst (TaskStands tables q told) (sym same) stands
-task_stands_same tables q told (task.Bulk by old) (task.Bulk other new) same stands = bulk_stands_same tables q told old new same.1 stands
+task_stands_same tables q told (task.Bulk by old) (task.Bulk other new) same stands = record {
+  dialogue = bulk_stands_same tables q told old new same.1 stands.dialogue;
+  asked = subst (IsAskedBy new) (sym same.0) (asked_by_same old new by same.1 stands.asked);
+}
 task_stands_same tables q told (task.Bulk by old) (task.Read o d) same stands = subst (TaskStands tables q told) (sym same) stands
 task_stands_same tables q told (task.Bulk by old) task.Set same stands = subst (TaskStands tables q told) (sym same) stands
 
-task_asks_same : (q : Question) (old new : Task) → TaskSaysSame old new → variables_of_task q new ≡ variables_of_task q old
-task_asks_same q (task.Read o d) new same = ap (variables_of_task q) same
-task_asks_same q task.Set new same = ap (variables_of_task q) same
-task_asks_same q (task.Bulk by old) (task.Bulk other new) same = columns_ask old.columns.items new.columns.items same.1.says.columns
-task_asks_same q (task.Bulk by old) (task.Read o d) same = ap (variables_of_task q) same
-task_asks_same q (task.Bulk by old) task.Set same = ap (variables_of_task q) same
+task_asks_same : (q : Question) (old new : Task) → TaskSaysSame old new → request_of_task q new ≡ request_of_task q old
+task_asks_same q (task.Read o d) new same = ap (request_of_task q) same
+task_asks_same q task.Set new same = ap (request_of_task q) same
+task_asks_same q (task.Bulk by old) (task.Bulk other new) same = λ i. record {
+  type = bulk_type (same.0 i);
+  non_repeaters = non_repeaters_in (same.0 i);
+  max_repetitions = max_repetitions_in (same.0 i);
+  variables = columns_ask old.columns.items new.columns.items same.1.says.columns i;
+}
+task_asks_same q (task.Bulk by old) (task.Read o d) same = ap (request_of_task q) same
+task_asks_same q (task.Bulk by old) task.Set same = ap (request_of_task q) same
 
 -- a Set stays a Set
 pub task_set_same : (old new : Task) → TaskSaysSame old new → new ≡ task.Set → old ≡ task.Set
@@ -100,7 +171,7 @@ open_stands_same : (tables : Tables) (devices : List Device) (before : List Happ
 open_stands_same tables devices before n q old new same stands = record {
   task = task_stands_same tables q (told_in n before) old.task.task new.task.task same.task stands.task;
   device = subst (IsDeviceOf devices q.context) (sym same.device) stands.device;
-  asked = λ id is. stands.asked id (sym same.asked ∙ is) ∙ (λ i. Some (record { device = sym same.device i; id = id; variables = sym (task_asks_same q old.task.task new.task.task same.task) i }));
+  asked = λ id is. stands.asked id (sym same.asked ∙ is) ∙ (λ i. Some (record { device = sym same.device i; id = id; request = sym (task_asks_same q old.task.task new.task.task same.task) i }));
   set_once = λ set none. stands.set_once (task_set_same old.task.task new.task.task same.task set) (sym same.asked ∙ none);
   came = subst (λ (t : Timer). AllCameFrom before n t.began) (sym same.timer) stands.came;
   unasked = λ none. stands.unasked (sym same.asked ∙ none);

@@ -6,6 +6,7 @@ use Rattle.sha2.specs.Sha256.{sha256}
 use Rattle.snmp_msg.specs.PduTypes.{pdu_tag}
 use Rattle.snmp_msg.specs.declared.pdu_type.PduType.TheVariants.{SetRequest}
 use Rattle.vacm_core.specs.Tables.{Tables}
+use Rattle.gateway_laws.specs.Requests.{RequestPdu}
 use Rattle.snmp_gate.specs.Beginning.{BeginsWell, IsDigestOf}
 use Rattle.snmp_gate.specs.Groups.{Group, IsJoined, begun, group_of, groups_of}
 use Rattle.snmp_gate.specs.History.{Happening, IsAccepted, accepted, asked, number_of, told_in}
@@ -75,8 +76,8 @@ module _ (tables : Tables) (devices : List Device) (before : List Happening) (ne
   asked_m : question_in m ≡ Some group.question
   asked_m = sym asks ∙ asked_first
 
-  isnt_asked : (n d id : ℕ) (vs : List _) (w : List ℕ) → accepted r.number now v m ≢ asked n d id vs w
-  isnt_asked n d id vs w same = let wrong : accepted r.number now v m ≡ asked n d id vs w = same in cc
+  isnt_asked : (n d id : ℕ) (what : RequestPdu) (w : List ℕ) → accepted r.number now v m ≢ asked n d id what w
+  isnt_asked n d id what w same = let wrong : accepted r.number now v m ≡ asked n d id what w = same in cc
 
   was_old : (n : ℕ) → WasAsked (accepted r.number now v m ∷ before) n → WasAsked before n
   was_old n = was_before (accepted r.number now v m) before n (isnt_asked n)
@@ -132,7 +133,7 @@ module _ (tables : Tables) (devices : List Device) (before : List Happening) (ne
 -- ---- a message that begins a request
 
 task_asks : (tables : Tables) (devices : List Device) (q : Question) (w : Work) → BeginsWell tables devices q w → AsksSet w → q.tag ≡ pdu_tag SetRequest
-task_asks tables devices q (Open o) well set = let known : TaskStands tables q said_nothing task.Set = subst (TaskStands tables q said_nothing) set (well.0 said_nothing) in known.tag
+task_asks tables devices q (Open o) well set = let known : TaskStands tables q said_nothing task.Set = subst (TaskStands tables q said_nothing) set (well.0 said_nothing refl) in known.tag
 task_asks tables devices q (Ends e) well set = absurd set
 
 noted_fresh : (now : ℕ) (v d : List ℕ) (w : Work) (digest : Option (List ℕ)) (mid sets : List RememberedSet) (n : Noted) → n ≢ noted.Before → IsNotedFor now digest w mid sets n → AsksSet w → digest ≡ Some (sha256 v) → IsFresh now (sha256 v) mid sets
@@ -150,7 +151,7 @@ module _ (tables : Tables) (devices : List Device) (before : List Happening) (ne
     (well : BeginsWell tables devices q w) (digest : IsDigestOf m v) (later : since ≤ now) (isnt : n ≢ noted.Before) (first : KeepsSets now old mid) (noted_is : IsNotedFor now m.digest w mid sets n) (new_is : new ≡ gs ++ begun next m w ∷ [])
     (stands : GroupsStand tables devices before next gs) (known : SetsStand since before gs old) where
   begun_was : (k : ℕ) → WasAsked (accepted next now v m ∷ before) k → WasAsked before k
-  begun_was k = was_before (accepted next now v m) before k (λ d id vs x same. let wrong : accepted next now v m ≡ asked k d id vs x = same in cc)
+  begun_was k = was_before (accepted next now v m) before k (λ d id what x same. let wrong : accepted next now v m ≡ asked k d id what x = same in cc)
 
   begun_there : (g : Group WaitingMessage Work) → Contains new g → Contains gs g ⊎ (begun next m w ≡ g)
   begun_there g there = Contains-push_cases gs (begun next m w) g (subst (λ (xs : Gs). Contains xs g) new_is there)
@@ -175,7 +176,7 @@ module _ (tables : Tables) (devices : List Device) (before : List Happening) (ne
 
   begun_fresh : GoesOut (accepted next now v m ∷ before) new next → IsFresh now (sha256 v) old sets
   begun_fresh out = elim out [
-    | inl both ↦ let was = begun_was next both.0 in absurd (never_next (asked next was.device was.id was.variables was.datagram) was.there refl)
+    | inl both ↦ let was = begun_was next both.0 in absurd (never_next (asked next was.device was.id was.request was.datagram) was.there refl)
     | inr (g, there, number, set) ↦
         let own = begun_set g there number set in
         let fresh = noted_fresh now v [] w m.digest mid sets n isnt noted_is own (digest q asks (task_asks tables devices q w well own)) in record {

@@ -8,11 +8,11 @@ use Rattle.std.proofs.lemmas.List.Elements.{All-contains, All-set, Contains-get_
 use Rattle.snmp_message.specs.declared.refusal.Refusal.{Refusal}
 use Rattle.snmp_msg.specs.Pdu.{PduParts}
 use Rattle.snmp_msg.specs.PduTypes.{pdu_tag}
-use Rattle.snmp_msg.specs.Variables.{Variable}
 use Rattle.snmp_msg.specs.declared.pdu_type.PduType.TheVariants.{GetRequest, GetNextRequest, SetRequest}
 use Rattle.vacm_core.specs.Tables.{Tables}
 use Rattle.snmp_agent.specs.Agent.{AgentState}
 use Rattle.snmp_walk.specs.declared.operation.ReadOperation.TheVariants.{Get, GetNext}
+use Rattle.gateway_laws.specs.Requests.{RequestPdu}
 use Rattle.snmp_gate.specs.Said.{Said}
 use Rattle.snmp_gate.specs.Groups.{Group, IsAnswered, IsAt, IsWorked, group_of, groups_of}
 use Rattle.snmp_gate.specs.History.{Happening, accepted, answered, asked, given_up, open_ask, sent, told_in, unanswered}
@@ -22,8 +22,8 @@ use Rattle.snmp_gate.specs.Noting.{AsksSet, IsToldOf}
 use Rattle.snmp_gate.specs.Question.{Question}
 use Rattle.snmp_gate.specs.Sending.{IsAskedAt, IsOpenAt, IsSentBy, IsUnasked, RepliesTo, Requests, SetsAsked}
 use Rattle.snmp_gate.specs.Taking.{WorkSaysSame}
-use Rattle.snmp_gate.specs.Waiting.{AsksStand, GateStands, GoesOut, GroupStands, GroupsStand, OpenStands, SendHappens, SetsStand, WorkStands, answering_at, asks_in}
-use Rattle.snmp_gate.specs.Work.{TaskStands, variables_of_task}
+use Rattle.snmp_gate.specs.Waiting.{AsksStand, Fresh, GateStands, GoesOut, GroupStands, GroupsStand, OpenStands, SendHappens, SetsStand, WorkStands, answering_at, asks_in}
+use Rattle.snmp_gate.specs.Work.{TaskStands, request_of_task}
 use Rattle.snmp_gate.specs.declared.asks.DeviceAsks.{DeviceAsks}
 use Rattle.snmp_gate.specs.declared.devices.Device.{Device}
 use Rattle.snmp_gate.specs.declared.devices.Devices.{Devices}
@@ -87,7 +87,7 @@ pub answered_sets : (now then n device : ℕ) (p : PduParts) (v : List ℕ) (bef
 answered_sets now then n device p v before rs place r s sets later within is number no_set stands =
     sets_other now then (answered n device p v) before (groups_of rs) (groups_of (slice_set rs place s)) sets sets later
     (λ k at w m same. let wrong : answered n device p v ≡ accepted k at w m = same in cc)
-    (λ k was. was_before (answered n device p v) before k (λ d id vs w same. let wrong : answered n device p v ≡ asked k d id vs w = same in cc) was)
+    (λ k was. was_before (answered n device p v) before k (λ d id what w same. let wrong : answered n device p v ≡ asked k d id what w = same in cc) was)
     (set_were rs place r s within is number (λ set. absurd (no_set set))) (keeps_same then sets sets refl) stands
 
 -- a request whose work says the same
@@ -128,14 +128,14 @@ leaves old new since now before e m said place later same isnt was answer asks t
       (answered_were (groups_of old.requests.list.items) (groups_of new.requests.list.items) place m answer) (keeps_told now m said old.sets.sets.items new.sets.sets.items told) stands.sets;
 }
 
-pub unanswered_happens : (old new : Gate) (since now : ℕ) (before : List Happening) (place : ℕ) (salt : List ℕ) (r : WaitingRequest WaitingMessage Work) (m : WaitingMessage) (said : Option ResponseStatus) (why : Option Refusal) → since ≤ now
+pub unanswered_happens : (old new : Gate) (since now : ℕ) (before : List Happening) (place : ℕ) (f : Fresh) (r : WaitingRequest WaitingMessage Work) (m : WaitingMessage) (said : Option ResponseStatus) (why : Option Refusal) → since ≤ now
     → place < length old.requests.list.items → r ≡ slice_index_or old.requests.list.items place r → IsLeftAfter old place m new → new.asks ≡ old.asks → IsToldOf m said old.sets.sets.items new.sets.sets.items → GateStands since before old
-    → SendHappens old now before salt (out.Unanswered r.number why) new
-unanswered_happens old new since now before place salt r m said why later within is left asks told stands =
+    → SendHappens old now before f (out.Unanswered r.number why) new
+unanswered_happens old new since now before place f r m said why later within is left asks told stands =
     let e = unanswered r.number m in
     let ends = unanswered_all old new before place r m within is left stands.requests in
     let rest = leaves old new since now before e m said place later (λ k. refl) (λ n at w x same. let wrong : unanswered r.number m ≡ accepted n at w x = same in cc)
-    (λ n. was_before e before n (λ d id vs w same. let wrong : unanswered r.number m ≡ asked n d id vs w = same in cc)) left.answer asks told stands in (
+    (λ n. was_before e before n (λ d id what w same. let wrong : unanswered r.number m ≡ asked n d id what w = same in cc)) left.answer asks told stands in (
       m,
       record {
         lawful = record { mediated = ends.mediated; in_turn = ends.in_turn; own_id = tt; once = tt };
@@ -144,17 +144,17 @@ unanswered_happens old new since now before place salt r m said why later within
       },
     )
 
-pub reply_happens : (old new : Gate) (since now : ℕ) (before : List Happening) (place : ℕ) (salt : List ℕ) (r : WaitingRequest WaitingMessage Work) (m : WaitingMessage) (said : Option ResponseStatus) (client : Vec ℕ) (replied : Reply) (output : Sent) → since ≤ now
+pub reply_happens : (old new : Gate) (since now : ℕ) (before : List Happening) (place : ℕ) (f : Fresh) (r : WaitingRequest WaitingMessage Work) (m : WaitingMessage) (said : Option ResponseStatus) (client : Vec ℕ) (replied : Reply) (output : Sent) → since ≤ now
     → place < length old.requests.list.items → r ≡ slice_index_or old.requests.list.items place r → IsLeftAfter old place m new → client ≡ m.client
-    → ((q : Question) (told : Said) → question_in r.first ≡ Some q → RepliesTo old.agent (now / 1000) salt q told r.first.kept r.work replied)
-    → IsSentBy r.number client replied output → new.asks ≡ old.asks → IsToldOf m said old.sets.sets.items new.sets.sets.items → GateStands since before old → SendHappens old now before salt output new
-reply_happens old new since now before place salt r m said client (reply.Sends datagram) output later within is left from replies sends asks told stands =
-    let by = answering_at old now salt in
+    → ((q : Question) (told : Said) → question_in r.first ≡ Some q → RepliesTo old.agent (now / 1000) f.salt q told r.first.kept r.work replied)
+    → IsSentBy r.number client replied output → new.asks ≡ old.asks → IsToldOf m said old.sets.sets.items new.sets.sets.items → GateStands since before old → SendHappens old now before f output new
+reply_happens old new since now before place f r m said client (reply.Sends datagram) output later within is left from replies sends asks told stands =
+    let by = answering_at old now f.salt in
     let e = sent r.number m by datagram.items in
-    let ends = sent_all old new before place (now / 1000) salt r m datagram within is left replies stands.requests in
+    let ends = sent_all old new before place (now / 1000) f.salt r m datagram within is left replies stands.requests in
     let rest = leaves old new since now before e m said place later (λ k. refl) (λ n at w x same. let wrong : sent r.number m by datagram.items ≡ accepted n at w x = same in cc)
-    (λ n. was_before e before n (λ d id vs w same. let wrong : sent r.number m by datagram.items ≡ asked n d id vs w = same in cc)) left.answer asks told stands in
-    let happens : SendHappens old now before salt (out.ToClient r.number client datagram) new = (
+    (λ n. was_before e before n (λ d id what w same. let wrong : sent r.number m by datagram.items ≡ asked n d id what w = same in cc)) left.answer asks told stands in
+    let happens : SendHappens old now before f (out.ToClient r.number client datagram) new = (
       m,
       from,
       record {
@@ -163,13 +163,13 @@ reply_happens old new since now before place salt r m said client (reply.Sends d
         stands = record { requests = ends.requests; asks = rest.asks; sets = rest.sets };
       },
     ) in
-    subst (λ (o : Sent). SendHappens old now before salt o new) (sym sends) happens
-reply_happens old new since now before place salt r m said client reply.Nothing output later within is left from replies sends asks told stands =
-    subst (λ (o : Sent). SendHappens old now before salt o new) (sym sends) (unanswered_happens old new since now before place salt r m said None later within is left asks told stands)
-reply_happens old new since now before place salt r m said client reply.SilentDrop output later within is left from replies sends asks told stands =
-    subst (λ (o : Sent). SendHappens old now before salt o new) (sym sends) (unanswered_happens old new since now before place salt r m said None later within is left asks told stands)
-reply_happens old new since now before place salt r m said client (reply.Refused why) output later within is left from replies sends asks told stands =
-    subst (λ (o : Sent). SendHappens old now before salt o new) (sym sends) (unanswered_happens old new since now before place salt r m said (Some why) later within is left asks told stands)
+    subst (λ (o : Sent). SendHappens old now before f o new) (sym sends) happens
+reply_happens old new since now before place f r m said client reply.Nothing output later within is left from replies sends asks told stands =
+    subst (λ (o : Sent). SendHappens old now before f o new) (sym sends) (unanswered_happens old new since now before place f r m said None later within is left asks told stands)
+reply_happens old new since now before place f r m said client reply.SilentDrop output later within is left from replies sends asks told stands =
+    subst (λ (o : Sent). SendHappens old now before f o new) (sym sends) (unanswered_happens old new since now before place f r m said None later within is left asks told stands)
+reply_happens old new since now before place f r m said client (reply.Refused why) output later within is left from replies sends asks told stands =
+    subst (λ (o : Sent). SendHappens old now before f o new) (sym sends) (unanswered_happens old new since now before place f r m said (Some why) later within is left asks told stands)
 
 -- ---- a request that ends
 
@@ -184,14 +184,14 @@ pub given_up_sets : (since now number device : ℕ) (before : List Happening) (g
     → SetsStand now (given_up number device ∷ before) new sets
 given_up_sets since now number device before gs new place was e sets later worked stands =
     sets_other since now (given_up number device) before gs new sets sets later (λ n at w x same. let wrong : given_up number device ≡ accepted n at w x = same in cc)
-    (λ n. was_before (given_up number device) before n (λ d id vs w same. let wrong : given_up number device ≡ asked n d id vs w = same in cc)) (worked_were gs new place was e worked) (keeps_same now sets sets refl) stands
+    (λ n. was_before (given_up number device) before n (λ d id what w same. let wrong : given_up number device ≡ asked n d id what w = same in cc)) (worked_were gs new place was e worked) (keeps_same now sets sets refl) stands
 
 -- ---- an ask
 
 task_is_set : (tables : Tables) (q : Question) (told : Said) (t : Task) → TaskStands tables q told t → q.tag ≡ pdu_tag SetRequest → t ≡ task.Set
 task_is_set tables q told (task.Read Get d) stands set = absurd (let tag : q.tag ≡ pdu_tag GetRequest = stands.tag in omega (arith, set, tag))
 task_is_set tables q told (task.Read GetNext d) stands set = absurd (let tag : q.tag ≡ pdu_tag GetNextRequest = stands.tag in omega (arith, set, tag))
-task_is_set tables q told (task.Bulk by d) stands set = absurd (omega (arith, set, stands.tag))
+task_is_set tables q told (task.Bulk by d) stands set = absurd (omega (arith, set, stands.dialogue.tag))
 task_is_set tables q told task.Set stands set = refl
 
 one_some : {A : Type 0} (a b : A) → Some a ≡ Some b → a ≡ b
@@ -209,7 +209,7 @@ set_of : (o : OpenRequest) (w : Work) → w ≡ Open o → o.task.task ≡ task.
 set_of o w is set = subst AsksSet (sym is) set
 
 -- the device of the request at a place is asked
-module _ (tables : Tables) (devices : List Device) (before : List Happening) (next : ℕ) (rs new : Requests) (place device number id : ℕ) (v : List ℕ) (vs : List Variable) (within : place < length rs) (opened : IsOpenAt rs place device number) (sets : SetsAsked rs place id new)
+module _ (tables : Tables) (devices : List Device) (before : List Happening) (next : ℕ) (rs new : Requests) (place device number id : ℕ) (v : List ℕ) (what : RequestPdu) (within : place < length rs) (opened : IsOpenAt rs place device number) (sets : SetsAsked rs place id new)
     (stands : GroupsStand tables devices before next (groups_of rs)) where
   asked_group : GroupStands tables devices before (group_of sets.request)
   asked_group = group_in tables devices before next (groups_of rs) place (group_of sets.request) (group_at rs place sets.request within sets.is) stands
@@ -234,10 +234,10 @@ module _ (tables : Tables) (devices : List Device) (before : List Happening) (ne
       (set_were rs place sets.request s within sets.is refl
       (λ set. set_of is.1.0 sets.request.work is.1.1 (sym (ap (λ (t : NamedTask). t.task) a.2) ∙ subst AsksSet a.1 set)))
 
-  pub asked_sets : (since now : ℕ) (known : List RememberedSet) → since ≤ now → SetsStand since before (groups_of rs) known → SetsStand now (asked number device id vs v ∷ before) (groups_of new) known
+  pub asked_sets : (since now : ℕ) (known : List RememberedSet) → since ≤ now → SetsStand since before (groups_of rs) known → SetsStand now (asked number device id what v ∷ before) (groups_of new) known
   asked_sets since now known later stood =
-      let e = asked number device id vs v in
-      let isnt : (n at : ℕ) (w : List ℕ) (x : WaitingMessage) → e ≢ accepted n at w x = λ n at w x same. let wrong : asked number device id vs v ≡ accepted n at w x = same in cc in
+      let e = asked number device id what v in
+      let isnt : (n at : ℕ) (w : List ℕ) (x : WaitingMessage) → e ≢ accepted n at w x = λ n at w x same. let wrong : asked number device id what v ≡ accepted n at w x = same in cc in
       sets_step since now before (e ∷ before) (groups_of rs) (groups_of new) known known later
       (λ n at w m there. elim (contains_cons e before (accepted n at w m) there) [ inl is ↦ absurd (isnt n at w m is) | inr rest ↦ rest ])
       (λ n out. elim out [
@@ -252,7 +252,7 @@ module _ (tables : Tables) (devices : List Device) (before : List Happening) (ne
       (keeps_same now known known refl) stood
 
   -- a Set goes out once
-  pub asked_once : (since : ℕ) (known : List RememberedSet) → (IsSetRequest before number → ¬ WasAsked before number) → SetsStand since before (groups_of rs) known → IsOnce before (asked number device id vs v)
+  pub asked_once : (since : ℕ) (known : List RememberedSet) → (IsSetRequest before number → ¬ WasAsked before number) → SetsStand since before (groups_of rs) known → IsOnce before (asked number device id what v)
   asked_once since known never stood set = (
     never set,
     λ other was other_set. stood.apart number other (λ same. never set (subst (WasAsked before) (sym same) was)) (inr (asked_goes set)) (inl (was, other_set)),
@@ -277,14 +277,14 @@ module _ (tables : Tables) (devices : List Device) (before : List Happening) (ne
       absurd (subst (λ (x : WaitingRequest WaitingMessage Work). ¬ AsksSet x.work) (sym sets.is) (no_set sets.request) (set_of is.1.0 sets.request.work is.1.1 task_set))
 
   -- its device was asked with this request-id
-  pub asked_before : (i : ℕ) → IsAskedAt rs place i → (old : List Variable) × (open_ask number before ≡ Some (record { device = device; id = i; variables = old }))
+  pub asked_before : (i : ℕ) → IsAskedAt rs place i → (old : RequestPdu) × (open_ask number before ≡ Some (record { device = device; id = i; request = old }))
   asked_before i asks =
       let is = asked_open in
       let o = subst (λ (x : WaitingRequest WaitingMessage Work). (p : OpenRequest) × (x.work ≡ Open p) × (p.asked ≡ Some i)) (sym sets.is) (asks sets.request) in
       let here : OpenStands tables devices before sets.request.number asked_group.question o.0 = subst (λ (w : Work). WorkStands tables devices before sets.request.number asked_group.question w) o.1 asked_group.work in
       let same = one_open sets.request.work o.0 is.1.0 o.1 is.1.1 in
       let on : o.0.device ≡ device = ap (λ (p : OpenRequest). p.device) same ∙ is.1.2 in (
-        variables_of_task asked_group.question o.0.task.task,
-        subst (λ (n : ℕ). open_ask n before ≡ Some (record { device = device; id = i; variables = variables_of_task asked_group.question o.0.task.task })) is.0
-            (here.asked i o.2 ∙ (λ j. Some (record { device = on j; id = i; variables = variables_of_task asked_group.question o.0.task.task }))),
+        request_of_task asked_group.question o.0.task.task,
+        subst (λ (n : ℕ). open_ask n before ≡ Some (record { device = device; id = i; request = request_of_task asked_group.question o.0.task.task })) is.0
+            (here.asked i o.2 ∙ (λ j. Some (record { device = on j; id = i; request = request_of_task asked_group.question o.0.task.task }))),
       )

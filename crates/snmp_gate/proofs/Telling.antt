@@ -10,7 +10,7 @@ use Rattle.std.specs.Ordering.{int_eq}
 use Rattle.snmp_msg.specs.PduTypes.{pdu_tag}
 use Rattle.snmp_msg.specs.Variables.{Variable, variable_of, variables_of}
 use Rattle.snmp_msg.specs.declared.binding.Binding.{Binding}
-use Rattle.snmp_msg.specs.declared.pdu_type.PduType.TheVariants.{SetRequest}
+use Rattle.snmp_msg.specs.declared.pdu_type.PduType.TheVariants.{GetBulkRequest, GetNextRequest, GetRequest, SetRequest}
 use Rattle.vacm_core.specs.Tables.{Tables}
 use Rattle.snmp_incoming.specs.Outcome.{Given}
 use Rattle.snmp_responder.specs.Instrumentation.{Known}
@@ -18,20 +18,24 @@ use Rattle.snmp_walk.specs.BulkColumn.{Ascends, BulkStands, IsGiven, bulk_reques
 use Rattle.snmp_walk.specs.BulkDialogue.{bulk_requests_of}
 use Rattle.snmp_walk.specs.Column.{MayShow}
 use Rattle.snmp_walk.specs.Dialogue.{IsShown, Shows, request, requests_of}
-use Rattle.snmp_walk.specs.Front.{IsShownOf}
+use Rattle.snmp_walk.specs.Front.{IsFront, IsShownOf}
 use Rattle.snmp_walk.specs.declared.bulk_column.BulkColumn.{BulkColumn}
 use Rattle.snmp_walk.specs.declared.bulk_dialogue.BulkDialogue.{BulkDialogue}
 use Rattle.snmp_walk.specs.declared.column.Column.{Column}
 use Rattle.snmp_walk.specs.declared.operation.ReadOperation.{ReadOperation}
-use Rattle.snmp_walk.specs.declared.operation.ReadOperation.TheVariants.{GetNext}
+use Rattle.snmp_walk.specs.declared.operation.ReadOperation.TheVariants.{Get, GetNext}
+use Rattle.gateway_laws.specs.Bulk.{IsFrontOfBulk}
 use Rattle.gateway_laws.specs.Device.{AreAnswered, IsDevice}
 use Rattle.gateway_laws.specs.Tracks.{AllTrack}
+use Rattle.gateway_laws.proofs.BulkFronts.{front_of_bulk}
+use Rattle.gateway_laws.proofs.BulkTrueRuns.{column_names}
+use Rattle.gateway_laws.proofs.FrontsTaken.{bulk_take}
 use Rattle.gateway_laws.proofs.Lists.{all_shown}
 use Rattle.snmp_gate.specs.Messages.{question_given, seen_in}
 use Rattle.snmp_gate.specs.Question.{Question}
 use Rattle.snmp_gate.specs.ReadAsks.{read_type}
 use Rattle.snmp_gate.specs.Replies.{Answering, IsFrontSentOr, IsOwnList, IsReportedOr, IsReplyTo, IsSentOr, MayTell, MayTellBulk, columns, front, set, told_with, too_big}
-use Rattle.snmp_gate.specs.Said.{AreTrue, Said}
+use Rattle.snmp_gate.specs.Said.{AreTrue, IsSetStatus, Said}
 use Rattle.snmp_gate.specs.Work.{BulkStandsFor, IsOwnStatus}
 use Rattle.snmp_gate.specs.declared.reply.Reply.{Reply}
 use Rattle.snmp_gate.specs.declared.reply.Reply.TheVariants as reply
@@ -51,15 +55,24 @@ signed_tells a b = elim (true_or_false (int_eq a b)) [
 -- ---- the request's own bindings
 
 may_tell_too_big : (tables : Tables) (q : Question) (said : Said) → MayTell tables q said too_big
-may_tell_too_big tables q said = inr (inr (refl, refl))
+may_tell_too_big tables q said = (λ is_set. inl refl, inr (inr (refl, refl)))
 
-may_tell_own : (tables : Tables) (q : Question) (said : Said) (status index : ℤ) (vs : List Variable) → (status ≡ NO_ERROR → q.tag ≡ pdu_tag SetRequest) → IsOwnList q status vs → MayTell tables q said (told_with status index vs)
-may_tell_own tables q said status index vs own (inl (is, none)) = inr (inr (is, none))
-may_tell_own tables q said status index vs own (inr (is, all)) =
+may_tell_own : (tables : Tables) (q : Question) (said : Said) (status index : ℤ) (vs : List Variable) → (status ≡ NO_ERROR → q.tag ≡ pdu_tag SetRequest) → (q.tag ≡ pdu_tag SetRequest → IsSetStatus said status) → IsOwnList q status vs
+    → MayTell tables q said (told_with status index vs)
+may_tell_own tables q said status index vs own of_set (inl (is, none)) = (of_set, inr (inr (is, none)))
+may_tell_own tables q said status index vs own of_set (inr (is, all)) =
     elim (signed_tells status NO_ERROR) [
-      | inl same ↦ inl (same, set (own same) all)
-      | inr other ↦ inr (inl (other, all))
+      | inl same ↦ (of_set, inl (same, set (own same) all))
+      | inr other ↦ (of_set, inr (inl (other, all)))
     ]
+
+-- a request for values is no Set
+pub no_read : (q : Question) (o : ReadOperation) → q.tag ≡ pdu_tag (read_type o) → q.tag ≡ pdu_tag SetRequest → ⊥
+no_read q Get tag is_set = let is : q.tag ≡ pdu_tag GetRequest = tag in omega (arith, is_set, is)
+no_read q GetNext tag is_set = let is : q.tag ≡ pdu_tag GetNextRequest = tag in omega (arith, is_set, is)
+
+pub no_bulk : (q : Question) → q.tag ≡ pdu_tag GetBulkRequest → q.tag ≡ pdu_tag SetRequest → ⊥
+no_bulk q tag is_set = omega (arith, is_set, tag)
 
 -- what is sent is what may be told, or tooBig
 pub sent_reply : (a : Answering) (tables : Tables) (q : Question) (said : Said) (g : Given) (status index : ℤ) (vs : List Variable) (r : Reply) → MayTell tables q said (told_with status index vs)
@@ -70,9 +83,9 @@ sent_reply a tables q said g status index vs reply.Nothing may sent = tt
 sent_reply a tables q said g status index vs reply.SilentDrop may sent = tt
 sent_reply a tables q said g status index vs (reply.Refused why) may sent = tt
 
-pub own_reply : (a : Answering) (tables : Tables) (q : Question) (said : Said) (g : Given) (says : ResponseStatus) (vs : List Variable) (r : Reply) → IsOwnStatus q says → IsOwnList q says.status vs
+pub own_reply : (a : Answering) (tables : Tables) (q : Question) (said : Said) (g : Given) (says : ResponseStatus) (vs : List Variable) (r : Reply) → IsOwnStatus q said says → IsOwnList q says.status vs
     → IsSentOr a g (told_with says.status says.index vs) r → IsReplyTo a tables q said g r
-own_reply a tables q said g says vs r own list sent = sent_reply a tables q said g says.status says.index vs r (may_tell_own tables q said says.status says.index vs own list) sent
+own_reply a tables q said g says vs r own list sent = sent_reply a tables q said g says.status says.index vs r (may_tell_own tables q said says.status says.index vs own.no_error own.set list) sent
 
 -- ---- a binding of each column
 
@@ -93,15 +106,17 @@ zip_shows Seen said o (c ∷ cs) (v ∷ vs) (b ∷ bs) same zip =
 
 pub columns_reply : (a : Answering) (tables : Tables) (q : Question) (said : Said) (g : Given) (o : ReadOperation) (cs : List Column) (bs : List Binding) (r : Reply) → q.tag ≡ pdu_tag (read_type o)
     → map request cs ≡ requests_of o (variables_of q.list) → AllZip (Shows (seen_in tables q) said.variables) cs bs → AllZip IsShown cs bs
-    → ((device : Known) → IsDevice device → AreTrue device o said → AllTrack device (seen_in tables q) cs) → IsSentOr a g (told_with NO_ERROR (pos 0) (map variable_of bs)) r → IsReplyTo a tables q said g r
+    → ((device : Known) → IsDevice device → AreTrue device said → AllTrack device (seen_in tables q) cs) → IsSentOr a g (told_with NO_ERROR (pos 0) (map variable_of bs)) r → IsReplyTo a tables q said g r
 columns_reply a tables q said g o cs bs r tag same zip shown tracks sent =
-    sent_reply a tables q said g NO_ERROR (pos 0) (map variable_of bs) r
-    (inl (
-      refl,
-      columns o tag (zip_shows (seen_in tables q) said.variables o cs (variables_of q.list) bs same zip)
-          (λ device plain truly. subst (λ (asks : List (ReadOperation × List ℕ)). AreAnswered device (seen_in tables q) asks (map variable_of bs)) same
-          (all_shown device (seen_in tables q) cs bs (tracks device plain truly) shown)),
-    )) sent
+    sent_reply a tables q said g NO_ERROR (pos 0) (map variable_of bs) r (
+      λ is_set. absurd (no_read q o tag is_set),
+      inl (
+        refl,
+        columns o tag (zip_shows (seen_in tables q) said.variables o cs (variables_of q.list) bs same zip)
+            (λ device plain truly. subst (λ (asks : List (ReadOperation × List ℕ)). AreAnswered device (seen_in tables q) asks (map variable_of bs)) same
+            (all_shown device (seen_in tables q) cs bs (tracks device plain truly) shown)),
+      ),
+    ) sent
 
 -- ---- a front
 
@@ -147,18 +162,23 @@ tells_bulk Seen said vs n m cs v same stand shown =
     }
 
 pub front_reply : (a : Answering) (tables : Tables) (q : Question) (said : Said) (g : Given) (d : BulkDialogue) (bs : List Binding) (r : Reply) → BulkStandsFor tables q said d
-    → All (IsShownOf (seen_in tables q) said.variables d.columns.items) (map variable_of bs) → IsFrontSentOr a g (map variable_of bs) r → IsReplyTo a tables q said g r
-front_reply a tables q said g d bs (reply.Sends datagram) stands all (inl (n, sent)) =
-    let may = λ (v : Variable) (is : IsShownOf (seen_in tables q) said.variables d.columns.items v). tells_bulk (seen_in tables q) said.variables (variables_of q.list) stands.non_repeaters stands.max_repetitions d.columns.items v stands.requests_are stands.stand is in
+    → All (IsShownOf (seen_in tables q) said.variables d.columns.items) (map variable_of bs) → IsFront d.non_repeaters d.max_repetitions d.columns.items (map variable_of bs) → IsFrontSentOr a g (map variable_of bs) r → IsReplyTo a tables q said g r
+front_reply a tables q said g d bs (reply.Sends datagram) stands all is_front (inl (n, sent)) =
+    let names = column_names d.non_repeaters d.max_repetitions (variables_of q.list) d.columns.items stands.requests_are in
+    let law = λ (device : Known) (plain : IsDevice device) (truly : AreTrue device said).
+    bulk_take device (seen_in tables q) (map (λ (v : Variable). v.name) (variables_of q.list)) d.non_repeaters d.max_repetitions (map variable_of bs) n
+    (subst (λ (all_names : List (List ℕ)). IsFrontOfBulk device (seen_in tables q) all_names d.non_repeaters d.max_repetitions (map variable_of bs)) names
+    (front_of_bulk device (seen_in tables q) plain d.non_repeaters d.max_repetitions d.columns.items (map variable_of bs) (stands.tracks device plain truly) is_front)) in
+    let may = λ (v : Variable) (is : IsShownOf (seen_in tables q) said.variables d.columns.items v). tells_bulk (seen_in tables q) said.variables (variables_of q.list) d.non_repeaters d.max_repetitions d.columns.items v stands.requests_are stands.stand is in
     inl (
       told_with NO_ERROR (pos 0) (take n (map variable_of bs)),
       sent,
-      inl (refl, front stands.tag (All-take (MayTellBulk (seen_in tables q) said.variables (variables_of q.list)) n (map variable_of bs) (All-weaker (IsShownOf (seen_in tables q) said.variables d.columns.items) (MayTellBulk (seen_in tables q) said.variables (variables_of q.list)) may (map variable_of bs) all))),
+      (λ is_set. absurd (no_bulk q stands.tag is_set), inl (refl, front stands.tag (All-take (MayTellBulk (seen_in tables q) said.variables (variables_of q.list)) n (map variable_of bs) (All-weaker (IsShownOf (seen_in tables q) said.variables d.columns.items) (MayTellBulk (seen_in tables q) said.variables (variables_of q.list)) may (map variable_of bs) all)) d.non_repeaters d.max_repetitions stands.first stands.most law)),
     )
-front_reply a tables q said g d bs (reply.Sends datagram) stands all (inr sent) = inl (too_big, sent, may_tell_too_big tables q said)
-front_reply a tables q said g d bs reply.Nothing stands all sent = tt
-front_reply a tables q said g d bs reply.SilentDrop stands all sent = tt
-front_reply a tables q said g d bs (reply.Refused why) stands all sent = tt
+front_reply a tables q said g d bs (reply.Sends datagram) stands all is_front (inr sent) = inl (too_big, sent, may_tell_too_big tables q said)
+front_reply a tables q said g d bs reply.Nothing stands all is_front sent = tt
+front_reply a tables q said g d bs reply.SilentDrop stands all is_front sent = tt
+front_reply a tables q said g d bs (reply.Refused why) stands all is_front sent = tt
 
 pub report_reply : (a : Answering) (tables : Tables) (q : Question) (said : Said) (g : Given) (r : Reply) → IsReportedOr a g r → IsReplyTo a tables q said g r
 report_reply a tables q said g (reply.Sends datagram) is = inr is
@@ -166,9 +186,9 @@ report_reply a tables q said g reply.Nothing is = tt
 report_reply a tables q said g reply.SilentDrop is = tt
 report_reply a tables q said g (reply.Refused why) is = tt
 
--- genErr may be told of any request
-pub unwritten : (q : Question) → IsOwnStatus q (record { status = pos 5; index = pos 0 })
-unwritten q is = absurd (false≢true ((Decides-int_eq (pos 5) (pos 0)).1 is))
+-- genErr may be told of any request for values
+pub unwritten : (q : Question) (said : Said) → (q.tag ≡ pdu_tag SetRequest → ⊥) → IsOwnStatus q said (record { status = pos 5; index = pos 0 })
+unwritten q said read = record { no_error = λ is. absurd (false≢true ((Decides-int_eq (pos 5) (pos 0)).1 is)); set = λ is_set. absurd (read is_set) }
 
 pub of_message : (a : Answering) (tables : Tables) (q : Question) (said : Said) (g kept : Given) (client : List ℕ) (r : Reply) → g ≡ kept → (question_given client g ≡ Some q → IsReplyTo a tables q said g r)
     → question_given client kept ≡ Some q → IsReplyTo a tables q said kept r

@@ -13,7 +13,7 @@ use Rattle.snmp_gate.specs.History.{Happening, accepted}
 use Rattle.snmp_gate.specs.Lawful.{IsInTurn}
 use Rattle.snmp_gate.specs.Messages.{question_in, set_in}
 use Rattle.snmp_gate.specs.Question.{Question}
-use Rattle.snmp_gate.specs.Said.{Said}
+use Rattle.snmp_gate.specs.Said.{IsUnasked, Said}
 use Rattle.snmp_gate.specs.Waiting.{GateStands}
 use Rattle.snmp_gate.specs.Work.{EndingStands, TaskStands}
 use Rattle.snmp_gate.specs.declared.devices.Device.{Device}
@@ -24,11 +24,11 @@ use Rattle.snmp_gate.specs.declared.waiting_message.WaitingMessage.{WaitingMessa
 use Rattle.snmp_gate.specs.declared.work.Work.{Work}
 use Rattle.snmp_gate.specs.declared.work.Work.TheVariants.{Open, Ends}
 
--- whatever was told: the device of its context is to be asked, or it ends
+-- whatever was told, where its device wasn't asked: the device of its context is to be asked, or it ends
 abbrev pub BeginsWell : Tables → List Device → Question → Work → Type 0
-BeginsWell tables devices q (Open o) = ((told : Said) → TaskStands tables q told o.task.task)
+BeginsWell tables devices q (Open o) = ((told : Said) → IsUnasked told → TaskStands tables q told o.task.task)
     × IsDeviceOf devices q.context o.device × (o.asked ≡ None)
-BeginsWell tables devices q (Ends e) = (told : Said) → EndingStands tables q told e
+BeginsWell tables devices q (Ends e) = (told : Said) → IsUnasked told → EndingStands tables q told e
 
 abbrev pub MaySetAll : Tables → Question → Type 0
 MaySetAll tables q = All (λ (v : Variable). set_in tables q v.name) (variables_of q.list)

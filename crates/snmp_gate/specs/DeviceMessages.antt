@@ -2,13 +2,14 @@
 --
 -- `IsCommunityPdu`: a message of SNMPv2c with this community and this PDU. `IsDeviceAnswer`: its PDU is a Response.
 -- `IsRequest`: its PDU is a request for these variables, with these numbers. `IsAsk`: error-status and error-index are
--- 0. `request_text`, `ask_text`: such a message in its canonical spelling.
+-- 0. `IsRequestFor`: the PDU asks this. `request_text`, `ask_text`: such a message in its canonical spelling.
 use Rattle.std.specs.Prelude.{◌≡◌, ℕ, ℤ, pos, List}
 use Rattle.snmp_msg.specs.Pdu.{PduParts, PduText, pdu_text, pdu_with}
 use Rattle.snmp_msg.specs.PduTypes.{pdu_tag}
 use Rattle.snmp_msg.specs.Variables.{AreBindings, Variable}
 use Rattle.snmp_msg.specs.declared.pdu_type.PduType.{PduType}
 use Rattle.snmp_msg.specs.declared.pdu_type.PduType.TheVariants.{Response}
+use Rattle.gateway_laws.specs.Requests.{RequestPdu}
 use Rattle.snmp_community.specs.Layout.{IsMessage, Parts}
 use Rattle.snmp_community.specs.Spelling.{community_text}
 use Rattle.snmp_community.specs.declared.version.Version.TheVariants.{Version2c}
@@ -40,6 +41,11 @@ pub record IsRequest (datagram community : List ℕ) (type : PduType) (id : ℕ)
 -- the same; error-status and error-index are 0
 abbrev pub IsAsk : List ℕ → List ℕ → PduType → ℕ → List Variable → Type 0
 IsAsk datagram community type id vs = IsRequest datagram community type id (pos 0) (pos 0) vs
+
+-- the PDU asks this, with this request-id
+abbrev pub IsRequestFor : List ℕ → List ℕ → ℕ → RequestPdu → Type 0
+IsRequestFor datagram community id r =
+    IsRequest datagram community r.type id (pos r.non_repeaters) (pos r.max_repetitions) r.variables
 
 abbrev pub request_text : List ℕ → PduType → ℕ → ℤ → ℤ → List Variable → List ℕ
 request_text community type id second third vs =

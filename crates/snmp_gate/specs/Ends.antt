@@ -5,6 +5,7 @@
 use Rattle.std.specs.Prelude.{◌≢◌, ⊤, ℕ}
 use Rattle.snmp_msg.specs.declared.pdu.Pdu.{Pdu}
 use Rattle.snmp_gate.specs.Question.{Question}
+use Rattle.snmp_gate.specs.Said.{Said}
 use Rattle.snmp_gate.specs.SetOutcome.{IsToldIndex, IsToldStatus}
 use Rattle.snmp_gate.specs.Work.{IsOwnStatus}
 use Rattle.snmp_gate.specs.declared.onward.AnswerTaken.{AnswerTaken}
@@ -19,9 +20,9 @@ abbrev pub FailsOrGoesOn : AnswerTaken → Type 0
 FailsOrGoesOn (Ends says) = IsFailing says
 FailsOrGoesOn _ = ⊤
 
-abbrev pub IsEndFor : Question → AnswerTaken → Type 0
-IsEndFor q (Ends says) = IsOwnStatus q says
-IsEndFor q _ = ⊤
+abbrev pub IsEndFor : Question → Said → AnswerTaken → Type 0
+IsEndFor q told (Ends says) = IsOwnStatus q told says
+IsEndFor q told _ = ⊤
 
 -- the Response to a SetRequest says what the device's answer says
 pub record IsOutcomeOf (answer : Pdu) (says : ResponseStatus) : Type 0 where

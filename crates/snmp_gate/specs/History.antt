@@ -11,7 +11,6 @@ use Rattle.std.specs.List.{HoldsAt}
 use Rattle.snmp_msg.specs.Pdu.{PduParts}
 use Rattle.snmp_msg.specs.PduTypes.{pdu_tag}
 use Rattle.snmp_msg.specs.Variables.{Variable, variables_of}
-use Rattle.snmp_msg.specs.declared.pdu_type.PduType.{PduType}
 use Rattle.snmp_msg.specs.declared.pdu_type.PduType.TheVariants.{GetBulkRequest, GetNextRequest, SetRequest}
 use Rattle.vacm_core.specs.Tables.{Tables}
 use Rattle.snmp_incoming.specs.Outcome.{Outcome}
@@ -19,11 +18,12 @@ use Rattle.snmp_agent.specs.Agent.{AgentState, taker_of}
 use Rattle.snmp_walk.specs.Column.{MayAsk}
 use Rattle.snmp_walk.specs.declared.operation.ReadOperation.{ReadOperation}
 use Rattle.snmp_walk.specs.declared.operation.ReadOperation.TheVariants.{GetNext}
-use Rattle.snmp_gate.specs.DeviceMessages.{IsAsk, IsDeviceAnswer, IsRequest}
+use Rattle.gateway_laws.specs.Requests.{RequestPdu}
+use Rattle.snmp_gate.specs.DeviceMessages.{IsDeviceAnswer, IsRequestFor}
 use Rattle.snmp_gate.specs.Devices.{IsDeviceOf}
 use Rattle.snmp_gate.specs.Messages.{question_in, seen_in, set_in}
 use Rattle.snmp_gate.specs.Question.{Question}
-use Rattle.snmp_gate.specs.ReadAsks.{read_type}
+use Rattle.snmp_gate.specs.ReadAsks.{plain_request, read_type}
 use Rattle.snmp_gate.specs.Replies.{Answering, IsAnswerTo}
 use Rattle.snmp_gate.specs.Said.{Exchange, Said, said_nothing}
 use Rattle.snmp_gate.specs.Work.{end_of, says_no_such_name}
@@ -33,8 +33,8 @@ use Rattle.snmp_gate.specs.declared.waiting_message.WaitingMessage.{WaitingMessa
 pub data Happening : Type 0 where
   -- a message that asks the request of this number is accepted at this moment, in milliseconds
   accepted : (number now : ℕ) (datagram : List ℕ) (message : WaitingMessage) → Happening
-  -- a device is asked for these variables, for the request of this number
-  asked : (number device id : ℕ) (vs : List Variable) (datagram : List ℕ) → Happening
+  -- a device is asked this, for the request of this number
+  asked : (number device id : ℕ) (request : RequestPdu) (datagram : List ℕ) → Happening
   -- the answer of a device is taken, for the request of this number
   answered : (number device : ℕ) (answer : PduParts) (datagram : List ℕ) → Happening
   -- a client is sent the answer to a message that asks the request of this number
@@ -47,7 +47,7 @@ pub data Happening : Type 0 where
 -- the request of which it happens
 abbrev pub number_of : Happening → ℕ
 number_of (accepted number now datagram message) = number
-number_of (asked number device id vs datagram) = number
+number_of (asked number device id request datagram) = number
 number_of (answered number device answer datagram) = number
 number_of (sent number message by datagram) = number
 number_of (unanswered number message) = number
@@ -58,7 +58,7 @@ abbrev pub waiting_in : ℕ → List Happening → List WaitingMessage
 waiting_in n [] = []
 waiting_in n (accepted number now datagram message ∷ before) =
     cond (nat_eq n number) (waiting_in n before ++ message ∷ []) (waiting_in n before)
-waiting_in n (asked number device id vs datagram ∷ before) = waiting_in n before
+waiting_in n (asked number device id request datagram ∷ before) = waiting_in n before
 waiting_in n (answered number device answer datagram ∷ before) = waiting_in n before
 waiting_in n (sent number message by datagram ∷ before) =
     cond (nat_eq n number) (drop 1 (waiting_in n before)) (waiting_in n before)
@@ -70,14 +70,14 @@ waiting_in n (given_up number device ∷ before) = waiting_in n before
 pub record OpenAsk : Type 0 where
   pub device : ℕ
   pub id : ℕ
-  pub variables : List Variable
+  pub request : RequestPdu
 
 -- what it is asked last for the request of this number, unless it answered or was given up
 abbrev pub open_ask : ℕ → List Happening → Option OpenAsk
 open_ask n [] = None
 open_ask n (accepted number now datagram message ∷ before) = open_ask n before
-open_ask n (asked number device id vs datagram ∷ before) =
-    cond (nat_eq n number) (Some (record { device = device; id = id; variables = vs })) (open_ask n before)
+open_ask n (asked number device id request datagram ∷ before) =
+    cond (nat_eq n number) (Some (record { device = device; id = id; request = request })) (open_ask n before)
 open_ask n (answered number device answer datagram ∷ before) = cond (nat_eq n number) None (open_ask n before)
 open_ask n (sent number message by datagram ∷ before) = open_ask n before
 open_ask n (unanswered number message ∷ before) = open_ask n before
@@ -86,7 +86,7 @@ open_ask n (given_up number device ∷ before) = cond (nat_eq n number) None (op
 -- what an answer says of each name that was asked, if it says noSuchName: that there is none after it
 abbrev pub ends_in : Option OpenAsk → PduParts → List Variable
 ends_in None p = []
-ends_in (Some ask) p = cond (says_no_such_name p.second) (map end_of ask.variables) []
+ends_in (Some ask) p = cond (says_no_such_name p.second) (map end_of ask.request.variables) []
 
 -- what an answer to this says: its bindings, and those ends
 abbrev pub said_by : Option OpenAsk → PduParts → List Variable
@@ -95,20 +95,27 @@ said_by ask p = variables_of p.list ++ ends_in ask p
 -- the answer with what was asked
 abbrev pub exchange_in : Option OpenAsk → PduParts → List Exchange
 exchange_in None p = []
-exchange_in (Some ask) p = record { asked = ask.variables; answer = p } ∷ []
+exchange_in (Some ask) p = record { asked = ask.request; answer = p } ∷ []
 
 -- what was said before, and the answer
 abbrev pub more_said : Option OpenAsk → PduParts → Said → Said
 more_said ask p said = record {
   variables = said_by ask p ++ said.variables;
   exchanges = exchange_in ask p ++ said.exchanges;
+  asked = said.asked;
 }
 
--- what devices told for the request of this number
+-- what was said before, and that the device is asked this
+abbrev pub asked_more : RequestPdu → Said → Said
+asked_more request said =
+    record { variables = said.variables; exchanges = said.exchanges; asked = request ∷ said.asked }
+
+-- what devices told for the request of this number, and were asked
 abbrev pub told_in : ℕ → List Happening → Said
 told_in n [] = said_nothing
 told_in n (accepted number now datagram message ∷ before) = told_in n before
-told_in n (asked number device id vs datagram ∷ before) = told_in n before
+told_in n (asked number device id request datagram ∷ before) =
+    cond (nat_eq n number) (asked_more request (told_in n before)) (told_in n before)
 told_in n (answered number device answer datagram ∷ before) =
     cond (nat_eq n number) (more_said (open_ask n before) answer (told_in n before)) (told_in n before)
 told_in n (sent number message by datagram ∷ before) = told_in n before
@@ -139,20 +146,21 @@ pub record MayAskName (q : Question) (tables : Tables) (told : Said) (operation 
 
 -- the law inwards: for values a device is asked with its community, and for a Set with the community for it
 pub data MayAskFor (tables : Tables) (d : Device) (q : Question) (told : Said) (id : ℕ)
-    (vs : List Variable) (datagram : List ℕ) : Type 0 where
+    (request : RequestPdu) (datagram : List ℕ) : Type 0 where
   reads : (operation : ReadOperation) → q.tag ≡ pdu_tag (read_type operation)
-      → All (MayAskName q tables told operation) vs
-      → IsAsk datagram d.community.items (read_type operation) id vs
-      → MayAskFor tables d q told id vs datagram
-  bulk : (type : PduType) (second third : ℕ) → (type ≡ GetNextRequest) ⊎ (type ≡ GetBulkRequest)
-      → q.tag ≡ pdu_tag GetBulkRequest → All (MayAskName q tables told GetNext) vs
-      → IsRequest datagram d.community.items type id (pos second) (pos third) vs
-      → MayAskFor tables d q told id vs datagram
+      → All (MayAskName q tables told operation) request.variables
+      → request ≡ plain_request (read_type operation) request.variables
+      → IsRequestFor datagram d.community.items id request
+      → MayAskFor tables d q told id request datagram
+  bulk : (request.type ≡ GetNextRequest) ⊎ (request.type ≡ GetBulkRequest)
+      → q.tag ≡ pdu_tag GetBulkRequest → All (MayAskName q tables told GetNext) request.variables
+      → IsRequestFor datagram d.community.items id request
+      → MayAskFor tables d q told id request datagram
   sets : (community : Vec ℕ) → d.write_community ≡ Some community → q.tag ≡ pdu_tag SetRequest
-      → vs ≡ variables_of q.list
-      → All (λ (v : Variable). set_in tables q v.name) vs
-      → IsAsk datagram community.items SetRequest id vs
-      → MayAskFor tables d q told id vs datagram
+      → request ≡ plain_request SetRequest (variables_of q.list)
+      → All (λ (v : Variable). set_in tables q v.name) request.variables
+      → IsRequestFor datagram community.items id request
+      → MayAskFor tables d q told id request datagram
 
 -- the community by which a device is asked by a request of this type
 abbrev pub IsCommunityFor : Device → ℕ → List ℕ → Type 0
@@ -178,9 +186,9 @@ pub record IsAnswerOf (devices : List Device) (before : List Happening) (number 
 abbrev pub IsMediated : AgentState → List Device → List Happening → Happening → Type 0
 IsMediated agent devices before (accepted number now datagram message) =
     Outcome (taker_of agent) agent.users (now / 1000) datagram (Ok message.kept)
-IsMediated agent devices before (asked number device id vs datagram) = (q : Question) × AskedBy before number q
+IsMediated agent devices before (asked number device id request datagram) = (q : Question) × AskedBy before number q
     × IsDeviceOf devices q.context device
-    × HoldsAt (λ (d : Device). MayAskFor agent.tables d q (told_in number before) id vs datagram) devices device
+    × HoldsAt (λ (d : Device). MayAskFor agent.tables d q (told_in number before) id request datagram) devices device
 IsMediated agent devices before (answered number device answer datagram) =
     IsAnswerOf devices before number device answer datagram
 IsMediated agent devices before (sent number message by datagram) = IsAccepted before number message

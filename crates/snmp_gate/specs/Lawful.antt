@@ -5,9 +5,9 @@
 -- `AreLawful`: each part of a history is lawful after the parts before it.
 use Rattle.std.specs.Prelude.{◌≡◌, ◌≢◌, ◌⊎◌, ⊤, ◌+◌, ◌<◌, ℕ, List, [], ◌∷◌, All, Contains, Some}
 use Rattle.snmp_msg.specs.PduTypes.{pdu_tag}
-use Rattle.snmp_msg.specs.Variables.{Variable}
 use Rattle.snmp_msg.specs.declared.pdu_type.PduType.TheVariants.{SetRequest}
 use Rattle.snmp_agent.specs.Agent.{AgentState}
+use Rattle.gateway_laws.specs.Requests.{RequestPdu}
 use Rattle.snmp_gate.specs.History.{AskedBy, Happening, IsMediated, OpenAsk, accepted, asked}
 use Rattle.snmp_gate.specs.History.{open_ask, sent, unanswered, waiting_in}
 use Rattle.snmp_gate.specs.Messages.{question_in}
@@ -38,7 +38,7 @@ IsOwnId before number device id = (other : ℕ) (ask : OpenAsk) → other ≢ nu
     → ask.device ≡ device → ask.id ≢ id
 
 abbrev pub HasOwnId : List Happening → Happening → Type 0
-HasOwnId before (asked number device id vs datagram) = IsOwnId before number device id
+HasOwnId before (asked number device id request datagram) = IsOwnId before number device id
 HasOwnId before _ = ⊤
 
 -- ---- Sets
@@ -47,9 +47,9 @@ HasOwnId before _ = ⊤
 pub record WasAsked (before : List Happening) (number : ℕ) : Type 0 where
   pub device : ℕ
   pub id : ℕ
-  pub variables : List Variable
+  pub request : RequestPdu
   pub datagram : List ℕ
-  pub there : Contains before (asked number device id variables datagram)
+  pub there : Contains before (asked number device id request datagram)
 
 -- an accepted message asks a Set by the request of this number
 pub record IsSetRequest (before : List Happening) (number : ℕ) : Type 0 where
@@ -68,7 +68,7 @@ ShareNoDatagram before a b = (datagram : List ℕ) (at other : ℕ) (m n : Waiti
 
 -- a Set is asked once, and none is asked whose datagram came for another one that was asked in the last 301 seconds
 abbrev pub IsOnce : List Happening → Happening → Type 0
-IsOnce before (asked number device id vs datagram) = IsSetRequest before number
+IsOnce before (asked number device id request datagram) = IsSetRequest before number
     → (¬ WasAsked before number)
     × ((other : ℕ) → WasAsked before other → IsSetRequest before other → ShareNoDatagram before number other)
 IsOnce before _ = ⊤

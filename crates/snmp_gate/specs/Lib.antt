@@ -17,6 +17,7 @@ pub mod Said
 pub mod Work
 pub mod Ends
 pub mod Replies
+pub mod Through
 pub mod History
 pub mod Lawful
 pub mod Taking

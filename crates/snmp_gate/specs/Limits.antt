@@ -25,7 +25,7 @@ IsAskedFor before device n = (ask : OpenAsk) × (open_ask n before ≡ Some ask)
 -- how often a device was asked for the request of this number since it answered
 abbrev pub asks_since : ℕ → List Happening → ℕ
 asks_since n [] = 0
-asks_since n (asked number device id vs datagram ∷ before) =
+asks_since n (asked number device id request datagram ∷ before) =
     cond (nat_eq n number) (1 + asks_since n before) (asks_since n before)
 asks_since n (answered number device answer datagram ∷ before) = cond (nat_eq n number) 0 (asks_since n before)
 asks_since n (accepted number now datagram message ∷ before) = asks_since n before
@@ -35,7 +35,8 @@ asks_since n (given_up number device ∷ before) = asks_since n before
 
 -- a device that doesn't answer is asked for a request as often as it may be, or once
 abbrev pub IsTriedFew : GateLimits → List Happening → Happening → Type 0
-IsTriedFew limits before (asked number device id vs datagram) = asks_since number before < max 1 limits.retries.tries
+IsTriedFew limits before (asked number device id request datagram) =
+    asks_since number before < max 1 limits.retries.tries
 IsTriedFew limits before _ = ⊤
 
 -- messages wait for the answers of at most as many requests as may wait, and of each request as many messages as may

@@ -2,7 +2,7 @@
 --
 -- `asked_variables`: the bindings of the request for the names that the columns of a dialogue ask, in their order.
 -- `bulk_asked_variables`: the same for a GetBulkRequest. `read_type`, `bulk_type`: the type of the request.
--- `non_repeaters_in`, `max_repetitions_in`: its numbers.
+-- `non_repeaters_in`, `max_repetitions_in`: its numbers. `read_request`, `bulk_request_by`: the whole request.
 use Rattle.std.specs.Prelude.{ℕ, List, [], ◌∷◌, min}
 use Rattle.std.specs.List.{flat_map}
 use Rattle.snmp_ber.specs.declared.number.TheConstants.{MAX_INTEGER32}
@@ -19,6 +19,7 @@ use Rattle.snmp_walk.specs.declared.bulk_ask.BulkAsk.{BulkAsk}
 use Rattle.snmp_walk.specs.declared.bulk_ask.BulkAsk.TheVariants as bulk
 use Rattle.snmp_walk.specs.declared.bulk_column.BulkColumn.{BulkColumn}
 use Rattle.snmp_walk.specs.declared.bulk_dialogue.BulkDialogue.{BulkDialogue}
+use Rattle.gateway_laws.specs.Requests.{RequestPdu}
 use Rattle.snmp_gate.specs.declared.read_ask.AskedName.{AskedName}
 use Rattle.snmp_gate.specs.declared.read_ask.TheConstants.{UNSPECIFIED}
 
@@ -61,6 +62,23 @@ bulk_variables_asked cs = flat_map (λ (c : BulkColumn). variables_in c.progress
 
 abbrev pub bulk_asked_variables : BulkDialogue → List Variable
 bulk_asked_variables d = bulk_variables_asked d.columns.items
+
+-- ---- the whole request
+
+-- of these variables, where non-repeaters and max-repetitions have no place
+abbrev pub plain_request : PduType → List Variable → RequestPdu
+plain_request type vs = record { type = type; non_repeaters = 0; max_repetitions = 0; variables = vs }
+
+abbrev pub read_request : ReadOperation → Dialogue → RequestPdu
+read_request operation d = plain_request (read_type operation) (asked_variables d)
+
+abbrev pub bulk_request_by : BulkAsk → BulkDialogue → RequestPdu
+bulk_request_by ask d = record {
+  type = bulk_type ask;
+  non_repeaters = non_repeaters_in ask;
+  max_repetitions = max_repetitions_in ask;
+  variables = bulk_asked_variables d;
+}
 
 -- ---- what the values of the code say
 

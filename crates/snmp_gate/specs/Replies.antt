@@ -3,7 +3,7 @@
 -- `IsSent`: the Response to an accepted message with an error-status, an error-index and bindings. `IsSentOr`: that, or
 -- tooBig without bindings. `MayTell`: the law outwards, which Response a message may be sent. `IsReplyTo`: what becomes
 -- of a message.
-use Rattle.std.specs.Prelude.{◌≡◌, ◌≢◌, ◌⊎◌, ⊤, ℕ, ℤ, pos, List, [], All, Contains, Some, Ok, take}
+use Rattle.std.specs.Prelude.{◌≡◌, ◌≢◌, ◌⊎◌, ⊤, ℕ, ℤ, pos, List, [], All, Contains, Some, Ok, map, take}
 use Rattle.std.specs.List.{AllZip}
 use Rattle.snmp_message.specs.Scoped.{Contexts, ScopedFront}
 use Rattle.snmp_msg.specs.Pdu.{PduParts, PduText}
@@ -19,15 +19,17 @@ use Rattle.snmp_agent.specs.Sent.{Sends}
 use Rattle.snmp_agent.specs.declared.unhandled.Unhandled.{Unhandled}
 use Rattle.snmp_responder.specs.Instrumentation.{Known}
 use Rattle.snmp_walk.specs.BulkColumn.{Ascends, IsGiven, last_name}
+use Rattle.snmp_walk.specs.BulkDialogue.{IsCountOf}
 use Rattle.snmp_walk.specs.Column.{MayShow}
 use Rattle.snmp_walk.specs.Dialogue.{requests_of}
 use Rattle.snmp_walk.specs.declared.operation.ReadOperation.{ReadOperation}
 use Rattle.snmp_walk.specs.declared.operation.ReadOperation.TheVariants.{GetNext}
+use Rattle.gateway_laws.specs.Bulk.{IsFrontOfBulk}
 use Rattle.gateway_laws.specs.Device.{AreAnswered, IsDevice}
 use Rattle.snmp_gate.specs.Messages.{seen_in}
 use Rattle.snmp_gate.specs.Question.{Question}
 use Rattle.snmp_gate.specs.ReadAsks.{read_type}
-use Rattle.snmp_gate.specs.Said.{AreTrue, Said}
+use Rattle.snmp_gate.specs.Said.{AreTrue, IsSetStatus, Said}
 use Rattle.snmp_gate.specs.declared.reply.Reply.{Reply}
 use Rattle.snmp_gate.specs.declared.reply.Reply.TheVariants as reply
 use Rattle.snmp_gate.specs.declared.reply.Sealing.{Sealing}
@@ -79,21 +81,27 @@ pub data MayTellValues (tables : Tables) (q : Question) (said : Said) (vs : List
   columns : (operation : ReadOperation) → q.tag ≡ pdu_tag (read_type operation)
       → AllZip (λ (asked v : Variable). MayShow (seen_in tables q) said.variables operation asked.name v)
       (variables_of q.list) vs
-      → ((device : Known) → IsDevice device → AreTrue device operation said
+      → ((device : Known) → IsDevice device → AreTrue device said
       → AreAnswered device (seen_in tables q) (requests_of operation (variables_of q.list)) vs)
       → MayTellValues tables q said vs
+  -- to a GetBulkRequest: what one of its columns may show; and there the front of what this device has that is
+  -- restricted to the view
   front : q.tag ≡ pdu_tag GetBulkRequest
       → All (MayTellBulk (seen_in tables q) said.variables (variables_of q.list)) vs
+      → (non_repeaters max_repetitions : ℕ) → IsCountOf q.second non_repeaters → IsCountOf q.third max_repetitions
+      → ((device : Known) → IsDevice device → AreTrue device said
+      → IsFrontOfBulk device (seen_in tables q) (map (λ (v : Variable). v.name) (variables_of q.list)) non_repeaters
+      max_repetitions vs)
       → MayTellValues tables q said vs
   -- to a SetRequest: its own
   set : q.tag ≡ pdu_tag SetRequest → vs ≡ variables_of q.list → MayTellValues tables q said vs
 
--- with an error: the request's own bindings, or none with tooBig
+-- of a Set what its device said; and with an error the request's own bindings, or none with tooBig
 abbrev pub MayTell : Tables → Question → Said → Told → Type 0
-MayTell tables q said told =
-    ((told.status ≡ NO_ERROR) × MayTellValues tables q said told.variables)
+MayTell tables q said told = (q.tag ≡ pdu_tag SetRequest → IsSetStatus said told.status)
+    × (((told.status ≡ NO_ERROR) × MayTellValues tables q said told.variables)
     ⊎ (((told.status ≢ NO_ERROR) × (told.variables ≡ variables_of q.list))
-    ⊎ ((told.status ≡ TOO_BIG) × (told.variables ≡ [])))
+    ⊎ ((told.status ≡ TOO_BIG) × (told.variables ≡ []))))
 
 -- the datagram is a Response that may be sent, or a report
 abbrev pub IsAnswerTo : Answering → Tables → Question → Said → Given → List ℕ → Type 0

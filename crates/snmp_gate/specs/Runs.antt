@@ -7,7 +7,7 @@ use Rattle.std.specs.Prelude.{◌≡◌, ◌≤◌, cond, nat_eq, ℕ, List, [],
 use Rattle.snmp_gate.specs.Due.{AreIdle}
 use Rattle.snmp_gate.specs.History.{Happening, accepted, answered, asked, given_up, sent, unanswered}
 use Rattle.snmp_gate.specs.Lawful.{AreLawful}
-use Rattle.snmp_gate.specs.Waiting.{ClientHappens, DeviceHappens, GateStands, IsAsBefore, SendHappens, Stays}
+use Rattle.snmp_gate.specs.Waiting.{ClientHappens, DeviceHappens, Fresh, GateStands, IsAsBefore, SendHappens, Stays}
 use Rattle.snmp_gate.specs.declared.gate.ClientTaken.{ClientTaken}
 use Rattle.snmp_gate.specs.declared.gate.DeviceTaken.{DeviceTaken}
 use Rattle.snmp_gate.specs.declared.gate.Gate.{Gate}
@@ -22,7 +22,7 @@ pub data Event : Type 0 where
   -- `take_device` takes a datagram from the device of this number
   device_comes : (now device : ℕ) (datagram : List ℕ) (taken : DeviceTaken) → Event
   -- `next` says what goes out
-  goes_out : (now : ℕ) (salt : List ℕ) (what : Sent) → Event
+  goes_out : (now : ℕ) (f : Fresh) (what : Sent) → Event
   -- one of these calls finds no memory
   finds_no_memory : (now : ℕ) → Event
 
@@ -37,18 +37,18 @@ TakesDevice old now device datagram taken new = Stays old new
     × ((since : ℕ) (before : List Happening) → since ≤ now → GateStands since before old
     → DeviceHappens old now before device datagram taken new)
 
-abbrev pub SendsNext : Gate → ℕ → List ℕ → Sent → Gate → Type 0
-SendsNext old now salt what new = Stays old new
+abbrev pub SendsNext : Gate → ℕ → Fresh → Sent → Gate → Type 0
+SendsNext old now f what new = Stays old new
     × (what ≡ Nothing → AreIdle new.limits now new.requests.list.items)
     × ((since : ℕ) (before : List Happening) → since ≤ now → GateStands since before old
-    → SendHappens old now before salt what new)
+    → SendHappens old now before f what new)
 
 -- the moment of the latest event, or 0
 abbrev pub moment_of : List Event → ℕ
 moment_of [] = 0
 moment_of (client_comes now client datagram taken ∷ before) = now
 moment_of (device_comes now device datagram taken ∷ before) = now
-moment_of (goes_out now salt what ∷ before) = now
+moment_of (goes_out now f what ∷ before) = now
 moment_of (finds_no_memory now ∷ before) = now
 
 -- the events lead from one gateway to the other
@@ -58,8 +58,8 @@ IsRun first (client_comes now client datagram taken ∷ before) last = (moment_o
     × ((middle : Gate) × IsRun first before middle × TakesClient middle now client datagram taken last)
 IsRun first (device_comes now device datagram taken ∷ before) last = (moment_of before ≤ now)
     × ((middle : Gate) × IsRun first before middle × TakesDevice middle now device datagram taken last)
-IsRun first (goes_out now salt what ∷ before) last = (moment_of before ≤ now)
-    × ((middle : Gate) × IsRun first before middle × SendsNext middle now salt what last)
+IsRun first (goes_out now f what ∷ before) last = (moment_of before ≤ now)
+    × ((middle : Gate) × IsRun first before middle × SendsNext middle now f what last)
 IsRun first (finds_no_memory now ∷ before) last = (moment_of before ≤ now)
     × ((middle : Gate) × IsRun first before middle × Stays middle last × IsAsBefore now middle last)
 
@@ -76,14 +76,14 @@ sent_to_client _ = []
 
 abbrev pub to_devices : List Event → List (ℕ × List ℕ)
 to_devices [] = []
-to_devices (goes_out now salt what ∷ before) = sent_to_device what ++ to_devices before
+to_devices (goes_out now f what ∷ before) = sent_to_device what ++ to_devices before
 to_devices (client_comes now client datagram taken ∷ before) = to_devices before
 to_devices (device_comes now device datagram taken ∷ before) = to_devices before
 to_devices (finds_no_memory now ∷ before) = to_devices before
 
 abbrev pub to_clients : List Event → List (List ℕ × List ℕ)
 to_clients [] = []
-to_clients (goes_out now salt what ∷ before) = sent_to_client what ++ to_clients before
+to_clients (goes_out now f what ∷ before) = sent_to_client what ++ to_clients before
 to_clients (client_comes now client datagram taken ∷ before) = to_clients before
 to_clients (device_comes now device datagram taken ∷ before) = to_clients before
 to_clients (finds_no_memory now ∷ before) = to_clients before
@@ -91,7 +91,7 @@ to_clients (finds_no_memory now ∷ before) = to_clients before
 -- the same, of a history
 abbrev pub asked_in : List Happening → List (ℕ × List ℕ)
 asked_in [] = []
-asked_in (asked number device id vs datagram ∷ before) = (device, datagram) ∷ asked_in before
+asked_in (asked number device id request datagram ∷ before) = (device, datagram) ∷ asked_in before
 asked_in (accepted number now datagram message ∷ before) = asked_in before
 asked_in (answered number device answer datagram ∷ before) = asked_in before
 asked_in (sent number message by datagram ∷ before) = asked_in before
@@ -102,7 +102,7 @@ abbrev pub sent_in : List Happening → List (List ℕ × List ℕ)
 sent_in [] = []
 sent_in (sent number message by datagram ∷ before) = (message.client.items, datagram) ∷ sent_in before
 sent_in (accepted number now datagram message ∷ before) = sent_in before
-sent_in (asked number device id vs datagram ∷ before) = sent_in before
+sent_in (asked number device id request datagram ∷ before) = sent_in before
 sent_in (answered number device answer datagram ∷ before) = sent_in before
 sent_in (unanswered number message ∷ before) = sent_in before
 sent_in (given_up number device ∷ before) = sent_in before
@@ -120,7 +120,7 @@ abbrev pub accepted_for : ℕ → List Happening → List WaitingMessage
 accepted_for n [] = []
 accepted_for n (accepted number now datagram message ∷ before) =
     cond (nat_eq n number) (accepted_for n before ++ message ∷ []) (accepted_for n before)
-accepted_for n (asked number device id vs datagram ∷ before) = accepted_for n before
+accepted_for n (asked number device id request datagram ∷ before) = accepted_for n before
 accepted_for n (answered number device answer datagram ∷ before) = accepted_for n before
 accepted_for n (sent number message by datagram ∷ before) = accepted_for n before
 accepted_for n (unanswered number message ∷ before) = accepted_for n before
@@ -134,6 +134,6 @@ ended_for n (sent number message by datagram ∷ before) =
 ended_for n (unanswered number message ∷ before) =
     cond (nat_eq n number) (ended_for n before ++ message ∷ []) (ended_for n before)
 ended_for n (accepted number now datagram message ∷ before) = ended_for n before
-ended_for n (asked number device id vs datagram ∷ before) = ended_for n before
+ended_for n (asked number device id request datagram ∷ before) = ended_for n before
 ended_for n (answered number device answer datagram ∷ before) = ended_for n before
 ended_for n (given_up number device ∷ before) = ended_for n before

@@ -15,7 +15,7 @@ use Rattle.snmp_gate.specs.Question.{Question}
 use Rattle.snmp_gate.specs.Replies.{IsReplyTo}
 use Rattle.snmp_gate.specs.Said.{Said}
 use Rattle.snmp_gate.specs.Time.{once_more, times_asked}
-use Rattle.snmp_gate.specs.Work.{EndingStands, TaskStands, variables_of_task}
+use Rattle.snmp_gate.specs.Work.{EndingStands, TaskStands, request_of_task}
 use Rattle.snmp_gate.specs.declared.gate.Sent.{Sent}
 use Rattle.snmp_gate.specs.declared.gate.Sent.TheVariants.{ToClient, Unanswered}
 use Rattle.snmp_gate.specs.declared.reply.Reply.{Reply}
@@ -62,7 +62,7 @@ IsUnasked (Ends e) = ⊥
 abbrev pub MayAskOf : Tables → List Device → ℕ → ℕ → Vec ℕ → WaitingRequest WaitingMessage Work → Type 0
 MayAskOf tables devices device id datagram r = (o : OpenRequest) (q : Question) (told : Said)
     → r.work ≡ Open o → question_in r.first ≡ Some q → TaskStands tables q told o.task.task
-    → HoldsAt (λ (d : Device). MayAskFor tables d q told id (variables_of_task q o.task.task) datagram.items) devices
+    → HoldsAt (λ (d : Device). MayAskFor tables d q told id (request_of_task q o.task.task) datagram.items) devices
     device
 
 abbrev pub MayAskAt : Tables → List Device → Requests → ℕ → ℕ → ℕ → Vec ℕ → Type 0

@@ -2,20 +2,21 @@
 --
 -- `OpenStands`: a request whose device is asked, or is to be asked. `GroupStands`: a request with its messages.
 -- `GateStands`: all of a gateway. `ClientHappens`, `DeviceHappens`, `SendHappens`: what happens by a call, and that it
--- is lawful after what happened before. `SameButSets`, `IsAsBefore`: what stays the same.
+-- is lawful after what happened before. `IsIdFrom`: with which request-id a device is asked. `SameButSets`,
+-- `IsAsBefore`: what stays the same.
 use Rattle.std.specs.Prelude.{◌≡◌, ◌≢◌, ◌⊎◌, ◌+◌, ◌/◌, ◌<◌, ◌≤◌, ⊤, ℕ, List, [], ◌∷◌, All, AllPairs, Contains, Some}
-use Rattle.std.specs.Prelude.{◌-◌, ◌^◌, min}
+use Rattle.std.specs.Prelude.{◌-◌, ◌%◌, ◌^◌, min}
 use Rattle.std.specs.Prelude.{None, Option, map, slice_index_or, slice_set}
 use Rattle.sha2.specs.Sha256.{sha256}
 use Rattle.snmp_msg.specs.Pdu.{PduParts}
-use Rattle.snmp_msg.specs.Variables.{Variable}
 use Rattle.vacm_core.specs.Tables.{Tables}
 use Rattle.snmp_message.specs.Numbers.{in_table}
 use Rattle.usm_core.specs.Table.{refusal_answer}
 use Rattle.snmp_agent.specs.Agent.{AgentTakes}
 use Rattle.snmp_agent.specs.Report.{AgentReports, report_of}
+use Rattle.gateway_laws.specs.Requests.{RequestPdu}
 use Rattle.snmp_gate.specs.AskRuns.{HaveOwnIds}
-use Rattle.snmp_gate.specs.Asks.{Ends, Waits, ask_of}
+use Rattle.snmp_gate.specs.Asks.{Ends, IsNextFree, Waits, ask_of}
 use Rattle.snmp_gate.specs.Bounds.{IsBounded}
 use Rattle.snmp_gate.specs.Devices.{IsDeviceOf}
 use Rattle.snmp_gate.specs.Groups.{Group, groups_of}
@@ -29,9 +30,10 @@ use Rattle.snmp_gate.specs.Question.{Question}
 use Rattle.snmp_gate.specs.Replies.{Answering, SameAgent}
 use Rattle.snmp_gate.specs.Sets.{IsKept, KeepsSets}
 use Rattle.snmp_gate.specs.Time.{times_asked}
-use Rattle.snmp_gate.specs.Work.{EndingStands, TaskStands, variables_of_task}
+use Rattle.snmp_gate.specs.Work.{EndingStands, TaskStands, request_of_task}
 use Rattle.snmp_gate.specs.declared.asks.DeviceAsk.{DeviceAsk}
 use Rattle.snmp_gate.specs.declared.asks.DeviceAsks.{DeviceAsks}
+use Rattle.snmp_gate.specs.declared.asks.TheConstants.{REQUEST_IDS}
 use Rattle.snmp_gate.specs.declared.devices.Device.{Device}
 use Rattle.snmp_gate.specs.declared.gate.ClientTaken.{ClientTaken}
 use Rattle.snmp_gate.specs.declared.gate.ClientTaken.TheVariants as client
@@ -60,7 +62,7 @@ pub record OpenStands (tables : Tables) (devices : List Device) (before : List H
   pub task : TaskStands tables q (told_in n before) o.task.task
   pub device : IsDeviceOf devices q.context o.device
   pub asked : (id : ℕ) → o.asked ≡ Some id → open_ask n before
-      ≡ Some (record { device = o.device; id = id; variables = variables_of_task q o.task.task })
+      ≡ Some (record { device = o.device; id = id; request = request_of_task q o.task.task })
   -- a Set that isn't asked now never was
   pub set_once : o.task.task ≡ Set → o.asked ≡ None → ¬ WasAsked before n
   pub came : AllCameFrom before n o.timer.began
@@ -202,15 +204,31 @@ DeviceHappens old now before number datagram _ new = GateStands now before new
 abbrev pub answering_at : Gate → ℕ → List ℕ → Answering
 answering_at old now salt = record { agent = old.agent; now = now / 1000; salt = salt }
 
-abbrev pub SendHappens : Gate → ℕ → List Happening → List ℕ → Sent → Gate → Type 0
-SendHappens old now before salt (out.ToClient number to datagram) new = (m : WaitingMessage) × (to ≡ m.client)
-    × Happens old now before (sent number m (answering_at old now salt) datagram.items) new
-SendHappens old now before salt (out.ToDevice number to datagram) new = (id : ℕ) × (vs : List Variable)
-    × Happens old now before (asked number to id vs datagram.items) new
-SendHappens old now before salt (out.Unanswered number why) new = (m : WaitingMessage)
+-- what a caller chooses for a call: a salt, and a request-id
+pub record Fresh : Type 0 where
+  pub salt : List ℕ
+  pub ask_id : ℕ
+
+abbrev pub fresh : List ℕ → ℕ → Fresh
+fresh salt ask_id = record { salt = salt; ask_id = ask_id % REQUEST_IDS }
+
+-- the device is asked with this request-id: the first one, from the caller's on, with which it isn't asked; or it was
+-- asked with it for this request, and didn't answer
+abbrev pub IsIdFrom : Gate → List Happening → ℕ → ℕ → ℕ → ℕ → Type 0
+IsIdFrom old before number device from id = IsNextFree (slice_index_or (asks_in old.asks.items) device []) from id
+    ⊎ ((request : RequestPdu)
+    × (open_ask number before ≡ Some (record { device = device; id = id; request = request })))
+
+abbrev pub SendHappens : Gate → ℕ → List Happening → Fresh → Sent → Gate → Type 0
+SendHappens old now before f (out.ToClient number to datagram) new = (m : WaitingMessage) × (to ≡ m.client)
+    × Happens old now before (sent number m (answering_at old now f.salt) datagram.items) new
+SendHappens old now before f (out.ToDevice number to datagram) new = (id : ℕ) × (request : RequestPdu)
+    × IsIdFrom old before number to f.ask_id id
+    × Happens old now before (asked number to id request datagram.items) new
+SendHappens old now before f (out.Unanswered number why) new = (m : WaitingMessage)
     × Happens old now before (unanswered number m) new
-SendHappens old now before salt (out.GivenUp number to) new = Happens old now before (given_up number to) new
-SendHappens old now before salt out.Nothing new = GateStands now before new
+SendHappens old now before f (out.GivenUp number to) new = Happens old now before (given_up number to) new
+SendHappens old now before f out.Nothing new = GateStands now before new
 
 -- a device is asked nothing
 abbrev pub AsksNothing : DeviceAsks → Type 0

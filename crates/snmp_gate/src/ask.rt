@@ -2,13 +2,14 @@
 
 ghost use Rattle.std.specs.Prelude.{◌≡◌, ◌<◌, ◌≤◌, ℕ, List, Some, length, IfOk, IfSome};
 ghost use Rattle.vacm_core.specs.Tables.{Tables};
-ghost use Rattle.snmp_msg.specs.Variables.{Variable, variables_of};
+ghost use Rattle.snmp_msg.specs.Variables.{variables_of};
 ghost use Rattle.snmp_walk.specs.ObjectIds.{AllNamed, BulkAllNamed};
 ghost use Rattle.snmp_gate.specs.Question.{Question};
 ghost use Rattle.snmp_gate.specs.Messages.{question_in};
 ghost use Rattle.snmp_gate.specs.History.{MayAskFor};
-ghost use Rattle.snmp_gate.specs.ReadAsks.{asked_variables, bulk_asked_variables};
-ghost use Rattle.snmp_gate.specs.Work.{BulkStandsFor, ReadStands, SetStands, TaskStands, variables_of_task};
+ghost use Rattle.snmp_gate.specs.ReadAsks.{bulk_request_by, plain_request, read_request};
+ghost use Rattle.snmp_msg.specs.declared.pdu_type.PduType.TheVariants.{SetRequest};
+ghost use Rattle.snmp_gate.specs.Work.{BulkStandsFor, ReadStands, SetStands, TaskStands, request_of_task};
 ghost use Rattle.snmp_gate.specs.Said.{Said};
 
 use crate::asks::REQUEST_IDS;
@@ -34,7 +35,7 @@ fn set_ask(
     requires { id < REQUEST_IDS }
     ensures { IfOk result (λ asked. IfSome asked (λ v. (tables : Tables) (q : Question) (told : Said)
         → question_in message.now ≡ Some q → SetStands tables q
-        → MayAskFor tables device.now q told id (variables_of q.list) v.items)) }
+        → MayAskFor tables device.now q told id (plain_request SetRequest (variables_of q.list)) v.items)) }
 {
     let Some(community) = &device.write_community else {
         return Ok(None);
@@ -56,7 +57,7 @@ fn read_ask(
     requires named { AllNamed dialogue.now }
     ensures { IfOk result (λ v. (tables : Tables) (q : Question) (told : Said)
         → ReadStands tables q told operation dialogue.now
-        → MayAskFor tables device.now q told id (asked_variables dialogue.now) v.items) }
+        → MayAskFor tables device.now q told id (read_request operation dialogue.now) v.items) }
 {
     one_dialogue();
     let datagram = write_read_ask(alloc, &device.community, id, operation, dialogue)?;
@@ -75,7 +76,7 @@ fn bulk_ask(
     requires named { BulkAllNamed dialogue.now }
     ensures { IfOk result (λ v. (tables : Tables) (q : Question) (told : Said)
         → BulkStandsFor tables q told dialogue.now
-        → MayAskFor tables device.now q told id (bulk_asked_variables dialogue.now) v.items) }
+        → MayAskFor tables device.now q told id (bulk_request_by by dialogue.now) v.items) }
 {
     one_bulk_dialogue();
     let datagram = write_bulk_ask(alloc, &device.community, id, by, dialogue)?;
@@ -93,7 +94,7 @@ fn datagram_of(
     requires { id < REQUEST_IDS }
     ensures { IfOk result (λ asked. IfSome asked (λ v. (tables : Tables) (q : Question) (told : Said)
         → question_in message.now ≡ Some q → TaskStands tables q told named.now.task
-        → MayAskFor tables device.now q told id (variables_of_task q named.now.task) v.items)) }
+        → MayAskFor tables device.now q told id (request_of_task q named.now.task) v.items)) }
 {
     match &named.task {
         Task::Read(operation, dialogue) => {
@@ -120,7 +121,7 @@ pub(crate) fn ask_of(
     requires { id < REQUEST_IDS }
     ensures { IfOk result (λ asked. IfSome asked (λ v. (tables : Tables) (q : Question) (told : Said)
         → question_in message.now ≡ Some q → TaskStands tables q told named.now.task
-        → MayAskFor tables device.now q told id (variables_of_task q named.now.task) v.items)) }
+        → MayAskFor tables device.now q told id (request_of_task q named.now.task) v.items)) }
 {
     match datagram_of(alloc, device, named, message, id) {
         Ok(Some(datagram)) => {

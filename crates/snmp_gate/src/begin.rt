@@ -1,15 +1,16 @@
 //! How a request begins.
 
-ghost use Rattle.std.specs.Prelude.{◌≡◌, ◌≢◌, List, [], IfOk};
+ghost use Rattle.std.specs.Prelude.{◌≡◌, ◌≢◌, ◌≤◌, List, [], IfOk, length};
+ghost use Rattle.snmp_ber.specs.declared.number.TheConstants.{MAX_INTEGER32};
 ghost use Rattle.vacm_core.specs.Tables.{Tables};
 ghost use Rattle.snmp_msg.specs.PduTypes.{pdu_tag};
-ghost use Rattle.snmp_msg.specs.Variables.{Variable};
+ghost use Rattle.snmp_msg.specs.Variables.{variables_of};
 ghost use Rattle.snmp_msg.specs.declared.pdu_type.PduType.TheVariants.{GetBulkRequest, GetRequest, GetNextRequest};
 ghost use Rattle.snmp_gate.specs.Question.{Question};
 ghost use Rattle.snmp_gate.specs.Messages.{IsPduOf, IsViewerOf};
 ghost use Rattle.snmp_gate.specs.ReadAsks.{read_type};
 ghost use Rattle.snmp_gate.specs.Work.{EndingStands, OnwardStands};
-ghost use Rattle.snmp_gate.specs.Said.{Said};
+ghost use Rattle.snmp_gate.specs.Said.{IsUnasked, Said};
 
 use crate::limits::GateLimits;
 use crate::onward::{Onward, bulk_on, read_on};
@@ -26,7 +27,8 @@ use vacm_core::ViewType;
 
 /// Returns how a request ends that isn't asked of its device.
 pub(crate) fn ending_of(refusal: AccessRefusal) -> RequestEnd
-    ensures { (tables : Tables) (q : Question) (told : Said) → EndingStands tables q told result }
+    ensures { (tables : Tables) (q : Question) (told : Said) → IsUnasked told
+        → EndingStands tables q told result }
 {
     match refusal {
         AccessRefusal::AuthorizationError => RequestEnd::Own(ResponseStatus {
@@ -77,6 +79,7 @@ fn begin_bulk(
     pdu: &Pdu<'_>,
     limits: &BulkLimits,
 ) -> Result<Onward, AllocError>
+    requires { length (variables_of pdu.now.list.now) ≤ MAX_INTEGER32 }
     ensures { IfOk result (λ onward. (tables : Tables) (q : Question) (told : Said)
         → IsViewerOf tables q viewer.now → IsPduOf q pdu.now → q.tag ≡ pdu_tag GetBulkRequest
         → OnwardStands tables q told onward) }
@@ -95,7 +98,7 @@ pub(crate) fn begin(
     bulk: &BulkLimits,
 ) -> Result<Onward, AllocError>
     ensures { IfOk result (λ onward. (tables : Tables) (q : Question) (told : Said)
-        → IsViewerOf tables q viewer.now → IsPduOf q pdu.now
+        → IsUnasked told → IsViewerOf tables q viewer.now → IsPduOf q pdu.now
         → OnwardStands tables q told onward) }
 {
     let answers = answers_of(alloc, viewer, ViewType::Read, pdu)?;

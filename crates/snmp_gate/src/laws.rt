@@ -1,19 +1,28 @@
 //! Laws of the gateway's pieces, over any run of steps. Each function does nothing: its contract is the law.
 
 ghost use Rattle.std.specs.Prelude.{◌≡◌, ◌⊎◌, ℕ, ◌+◌, ◌*◌, ◌^◌, ◌<◌, ◌≤◌, max, List, [], length, All, Bool, count_by};
-ghost use Rattle.std.specs.Prelude.{◌++◌, ◌∷◌};
+ghost use Rattle.std.specs.Prelude.{◌++◌, ◌∷◌, Some};
 ghost use Rattle.snmp_agent.specs.Agent.{AgentState};
+ghost use Rattle.snmp_responder.specs.Instrumentation.{Known};
+ghost use Rattle.gateway_laws.specs.Device.{IsDevice};
 ghost use Rattle.snmp_gate.specs.AskRuns.{AskStep, HaveOwnIds, IsAskRun, times_asked, times_ended, times_waiting};
 ghost use Rattle.snmp_gate.specs.declared.asks.DeviceAsk.{DeviceAsk};
 ghost use Rattle.snmp_gate.specs.Groups.{Group};
 ghost use Rattle.snmp_gate.specs.GroupRuns.{AskOwn, AsksOneThing, GroupStep, HaveOwnNumbers, IsFew, IsGroupRun};
 ghost use Rattle.snmp_gate.specs.GroupRuns.{answered_by, taken_by, times_held};
-ghost use Rattle.snmp_gate.specs.History.{Happening, waiting_in};
-ghost use Rattle.snmp_gate.specs.Lawful.{AreLawful};
+ghost use Rattle.snmp_gate.specs.History.{Happening, sent, told_in, waiting_in};
+ghost use Rattle.snmp_gate.specs.Lawful.{AreLawful, WasAsked};
+ghost use Rattle.snmp_gate.specs.Messages.{question_in, seen_in};
+ghost use Rattle.snmp_gate.specs.Question.{Question};
+ghost use Rattle.snmp_gate.specs.Replies.{Answering};
+ghost use Rattle.snmp_gate.specs.Said.{AreTrue};
+ghost use Rattle.snmp_gate.specs.Through.{TellsDevice, TellsSet};
+ghost use Rattle.snmp_msg.specs.PduTypes.{pdu_tag};
+ghost use Rattle.snmp_msg.specs.declared.pdu_type.PduType.TheVariants.{SetRequest};
 ghost use Rattle.snmp_gate.specs.Runs.{Event, IsHistoryOf, IsRun, accepted_for, ended_for, goes_out};
 ghost use Rattle.snmp_gate.specs.Time.{AreAsks, IsDue, IsTimed, TimerStep};
 ghost use Rattle.snmp_gate.specs.SetRuns.{AreAsTold, ComesWithin, IsSetRun, SetStep, times_new};
-ghost use Rattle.snmp_gate.specs.Waiting.{GateStands};
+ghost use Rattle.snmp_gate.specs.Waiting.{Fresh, GateStands};
 ghost use Rattle.snmp_gate.specs.Bounds.{IsBounded, IsTimely};
 ghost use Rattle.snmp_gate.specs.Due.{IsIdle, retries_in};
 ghost use Rattle.snmp_gate.specs.Limits.{AlwaysKeepsTo, WaitInTime};
@@ -27,6 +36,7 @@ ghost use Rattle.snmp_gate.specs.declared.sets.TheConstants.{SETS_LIMIT};
 ghost use Rattle.snmp_gate.specs.declared.timer.Due.TheVariants.{GiveUp};
 ghost use Rattle.snmp_gate.specs.declared.timer.Timer.{Timer};
 ghost use Rattle.snmp_gate.specs.declared.timer.Turn.TheVariants.{ToAsk};
+ghost use Rattle.snmp_gate.specs.declared.waiting_message.WaitingMessage.{WaitingMessage};
 ghost use Rattle.snmp_gate.specs.declared.work.OpenRequest.{OpenRequest};
 ghost use Rattle.snmp_gate.specs.declared.work.Work.TheVariants.{Open};
 
@@ -110,6 +120,30 @@ pub fn a_gateway_mediates()
         → (history : List Happening) × IsHistoryOf first events history }
 {}
 
+/// What a client is sent in a lawful history for a request of a device that answers each time as RFC 3416 says, from
+/// variables that don't change: a report, or a Response with an error, or what that device restricted to the view has
+/// (RFC 3416, sections 4.2.1 to 4.2.3). To a GetBulkRequest it is a front of that. What is asked of others beside, and
+/// what they answer, changes nothing.
+pub fn a_client_sees_the_device()
+    ensures { (agent : AgentState) (devices : List Device) (before : List Happening) (number : ℕ)
+        (message : WaitingMessage) (by : Answering) (datagram : List ℕ) (device : Known) (q : Question)
+        → AreLawful agent devices (sent number message by datagram ∷ before)
+        → question_in message ≡ Some q → IsDevice device → AreTrue device (told_in number before)
+        → TellsDevice device (seen_in agent.tables q) by q message.kept datagram }
+{}
+
+/// In a lawful history of a gateway whose device was asked a Set: the Response to it has the error-status that the
+/// device gave (RFC 3416, section 4.2.5), or tooBig. So a Response says that a Set was done only if the device said so.
+/// A Set isn't asked if it has no bindings, or if its datagram came before within 301 seconds; then the Response has
+/// what it had (`a_set_goes_out_once`).
+pub fn a_set_is_told_as_its_device_answered()
+    ensures { (agent : AgentState) (devices : List Device) (before : List Happening) (number : ℕ)
+        (message : WaitingMessage) (by : Answering) (datagram : List ℕ) (q : Question)
+        → AreLawful agent devices (sent number message by datagram ∷ before)
+        → question_in message ≡ Some q → q.tag ≡ pdu_tag SetRequest → WasAsked before number
+        → TellsSet (told_in number before) by message.kept datagram }
+{}
+
 /// In a lawful history of a gateway the messages of each request end in the order in which they came: those that were
 /// answered, or weren't and won't be, and then those that wait, are those that were accepted. So each message is
 /// answered once at most.
@@ -134,8 +168,8 @@ pub fn a_gateway_keeps_to_its_limits()
     ensures in_time { (limits : GateLimits) (now : ℕ) (o : OpenRequest) → IsTimely limits (Open o)
         → IsIdle limits now (Open o)
         → now < o.timer.began + (retries_in limits o.task.task).last + (retries_in limits o.task.task).again }
-    ensures ends { (first last : Gate) (now : ℕ) (salt : List ℕ) (events : List Event) → GateStands 0 [] first
-        → IsBounded first → IsRun first (goes_out now salt Sent.Nothing ∷ events) last
-        → (history : List Happening) × IsHistoryOf first (goes_out now salt Sent.Nothing ∷ events) history
+    ensures ends { (first last : Gate) (now : ℕ) (f : Fresh) (events : List Event) → GateStands 0 [] first
+        → IsBounded first → IsRun first (goes_out now f Sent.Nothing ∷ events) last
+        → (history : List Happening) × IsHistoryOf first (goes_out now f Sent.Nothing ∷ events) history
         × WaitInTime first.limits now history }
 {}

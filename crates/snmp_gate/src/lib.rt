@@ -293,9 +293,10 @@ pub use device_answer::{DeviceAnswer, read_device_answer};
 pub use devices::{Device, Devices, RepeatedContext};
 pub use gate::{ClientTaken, DeviceTaken, Gate, Sent};
 pub use laws::{
-    a_gateway_keeps_to_its_limits, a_gateway_mediates, a_request_ends_in_time,
-    a_request_is_one_question, a_set_goes_out_once, an_answer_is_of_one_ask,
-    each_message_is_answered_once, messages_end_in_turn,
+    a_client_sees_the_device, a_gateway_keeps_to_its_limits, a_gateway_mediates,
+    a_request_ends_in_time, a_request_is_one_question, a_set_goes_out_once,
+    a_set_is_told_as_its_device_answered, an_answer_is_of_one_ask, each_message_is_answered_once,
+    messages_end_in_turn,
 };
 pub use limits::GateLimits;
 pub use read_ask::{UNSPECIFIED, write_read_ask};

@@ -16,7 +16,8 @@ ghost use Rattle.snmp_gate.specs.Due.{retries_in};
 ghost use Rattle.snmp_gate.specs.declared.limits.GateLimits.{GateLimits as LimitsAre};
 ghost use Rattle.snmp_gate.specs.Groups.{groups_of};
 ghost use Rattle.snmp_gate.specs.Noting.{AsksSet, IsToldOf};
-ghost use Rattle.snmp_gate.specs.Waiting.{EndsAsk, GateStands, IsAsBefore, SameButAsks, SameButSets, SendHappens};
+ghost use Rattle.snmp_gate.specs.Waiting.{EndsAsk, Fresh, GateStands, IsAsBefore, SameButAsks, SameButSets};
+ghost use Rattle.snmp_gate.specs.Waiting.{SendHappens, fresh};
 ghost use Rattle.snmp_gate.specs.Waiting.{Stays, asks_in};
 ghost use Rattle.snmp_gate.specs.Said.{Said};
 
@@ -237,7 +238,8 @@ impl Gate {
     /// The error is out of memory. Then all is as before, and the call may be made again.
     pub fn next(&mut self, now: u64, salt: [u8; 8], ask_id: u32) -> Result<Sent, AllocError>
         ensures happens { IfOk result (λ sent. (since : ℕ) (before : List Happening) → since ≤ now
-            → GateStands since before self.old → SendHappens self.old now before salt sent self.new) }
+            → GateStands since before self.old
+            → SendHappens self.old now before (fresh salt ask_id) sent self.new) }
         ensures idle { IfOk result (λ sent. sent ≡ Sent.Nothing
             → AreIdle self.new.limits now self.new.requests.list.items) }
         ensures stays { Stays self.old self.new }
@@ -249,7 +251,7 @@ impl Gate {
         };
         match todo {
             Todo::Answer => self.answer_at(place, now, salt),
-            Todo::Ask => self.ask_at(place, now, salt, ask_id % REQUEST_IDS),
+            Todo::Ask => self.ask_at(place, now, salt, ask_id),
             Todo::AskAgain => self.ask_again_at(place, now),
             Todo::GiveUp => Ok(self.give_up_at(place)),
         }
@@ -268,8 +270,9 @@ impl Gate {
     fn answer_at(&mut self, place: usize, now: u64, salt: [u8; 8]) -> Result<Sent, AllocError>
         requires place { place < length self.old.requests.list.items }
         requires ended { HoldsAt (λ r. HasEnded r.work) self.old.requests.list.items place }
-        ensures happens { IfOk result (λ sent. (since : ℕ) (before : List Happening) → since ≤ now
-            → GateStands since before self.old → SendHappens self.old now before salt sent self.new) }
+        ensures happens { IfOk result (λ sent. (since ask_id : ℕ) (before : List Happening) → since ≤ now
+            → GateStands since before self.old
+            → SendHappens self.old now before (fresh salt ask_id) sent self.new) }
         ensures something { IfOk result (λ sent. sent ≢ Sent.Nothing) }
         ensures stays { Stays self.old self.new }
         ensures err { OnErr result (IsAsBefore now self.old self.new) }
@@ -361,8 +364,9 @@ impl Gate {
     /// message with tooBig. The error is out of memory. Then the request is as before.
     fn answer_too_long(&mut self, place: usize, now: u64, salt: [u8; 8]) -> Result<Sent, AllocError>
         requires place { place < length self.old.requests.list.items }
-        ensures happens { IfOk result (λ sent. (since : ℕ) (before : List Happening) → since ≤ now
-            → GateStands since before self.old → SendHappens self.old now before salt sent self.new) }
+        ensures happens { IfOk result (λ sent. (since ask_id : ℕ) (before : List Happening) → since ≤ now
+            → GateStands since before self.old
+            → SendHappens self.old now before (fresh salt ask_id) sent self.new) }
         ensures something { IfOk result (λ sent. sent ≢ Sent.Nothing) }
         ensures stays { Stays self.old self.new }
         ensures err { OnErr result (IsAsBefore now self.old self.new) }
@@ -389,11 +393,11 @@ impl Gate {
         ask_id: u32,
     ) -> Result<Sent, AllocError>
         requires place { place < length self.old.requests.list.items }
-        requires id { ask_id < REQUEST_IDS }
         requires due { HoldsAt (λ r. IsTodo self.old.limits self.old.asks.items now r.work (Some Todo.Ask))
             self.old.requests.list.items place }
         ensures happens { IfOk result (λ sent. (since : ℕ) (before : List Happening) → since ≤ now
-            → GateStands since before self.old → SendHappens self.old now before salt sent self.new) }
+            → GateStands since before self.old
+            → SendHappens self.old now before (fresh salt ask_id) sent self.new) }
         ensures something { IfOk result (λ sent. sent ≢ Sent.Nothing) }
         ensures stays { Stays self.old self.new }
         ensures err { OnErr result (IsAsBefore now self.old self.new) }
@@ -402,7 +406,7 @@ impl Gate {
         if device >= self.devices.list.len() {
             return Ok(self.give_up_at(place));
         }
-        let id = self.asks[device].free_id(ask_id);
+        let id = self.asks[device].free_id(ask_id % REQUEST_IDS);
         let Some(datagram) = self.datagram_at(place, device, id)? else {
             return self.answer_too_long(place, now, salt);
         };
@@ -428,8 +432,8 @@ impl Gate {
         requires place { place < length self.old.requests.list.items }
         requires due { HoldsAt (λ r. IsTodo self.old.limits self.old.asks.items now r.work (Some Todo.AskAgain))
             self.old.requests.list.items place }
-        ensures happens { IfOk result (λ sent. (since : ℕ) (before : List Happening) (salt : List ℕ) → since ≤ now
-            → GateStands since before self.old → SendHappens self.old now before salt sent self.new) }
+        ensures happens { IfOk result (λ sent. (since : ℕ) (before : List Happening) (f : Fresh) → since ≤ now
+            → GateStands since before self.old → SendHappens self.old now before f sent self.new) }
         ensures something { IfOk result (λ sent. sent ≢ Sent.Nothing) }
         ensures stays { Stays self.old self.new }
         ensures err { OnErr result (IsAsBefore now self.old self.new) }
@@ -473,8 +477,8 @@ impl Gate {
     fn give_up_at(&mut self, place: usize) -> Sent
         requires place { place < length self.old.requests.list.items }
         requires goes_on { HoldsAt (λ r. ¬ HasEnded r.work) self.old.requests.list.items place }
-        ensures happens { (since now : ℕ) (before : List Happening) (salt : List ℕ) → since ≤ now
-            → GateStands since before self.old → SendHappens self.old now before salt result self.new }
+        ensures happens { (since now : ℕ) (before : List Happening) (f : Fresh) → since ≤ now
+            → GateStands since before self.old → SendHappens self.old now before f result self.new }
         ensures something { result ≢ Sent.Nothing }
         ensures stays { Stays self.old self.new }
     {

@@ -6,8 +6,10 @@ ghost use Rattle.snmp_msg.specs.Variables.{Variable};
 ghost use Rattle.snmp_walk.specs.ObjectIds.{AllNamed, BulkAllNamed};
 ghost use Rattle.snmp_gate.specs.Question.{Question};
 ghost use Rattle.snmp_gate.specs.Messages.{IsViewerOf};
-ghost use Rattle.snmp_gate.specs.ReadAsks.{asked_variables, bulk_asked_variables};
-ghost use Rattle.snmp_gate.specs.Work.{AsksNoSet, BulkStandsFor, OnwardStands, ReadStands, SaysAll, TaskStands};
+ghost use Rattle.snmp_gate.specs.ReadAsks.{bulk_request_by, read_request};
+ghost use Rattle.snmp_walk.specs.declared.bulk_ask.BulkAsk.{BulkAsk as BulkAskIs};
+ghost use Rattle.snmp_gate.specs.Work.{AsksNoSet, BulkAskStands, BulkStandsFor, OnwardStands, ReadStands, SaysAll};
+ghost use Rattle.snmp_gate.specs.Work.{TaskHas};
 ghost use Rattle.snmp_gate.specs.declared.set_answer.ResponseStatus.{ResponseStatus as Says};
 ghost use Rattle.snmp_gate.specs.Ends.{IsEndFor, IsFailing, FailsOrGoesOn};
 ghost use Rattle.snmp_gate.specs.Taking.{BulkSaysSame};
@@ -133,7 +135,7 @@ pub(crate) fn take_read(
     ensures named { AllNamed dialogue.old → AllNamed dialogue.new }
     ensures stands { IfOk result (λ _. (tables : Tables) (q : Question) (told : Said)
         → (operation : ReadOperation) → IsViewerOf tables q viewer.now
-        → SaysAll (asked_variables dialogue.old) answer.now told
+        → SaysAll (read_request operation dialogue.old) answer.now told
         → ReadStands tables q told operation dialogue.old → ReadStands tables q told operation dialogue.new) }
     ensures fails { IfOk result FailsOrGoesOn }
     ensures err { OnErr result (dialogue.new ≡ dialogue.old) }
@@ -153,10 +155,10 @@ pub(crate) fn take_bulk(
     answer: &Pdu<'_>,
 ) -> Result<AnswerTaken, AllocError>
     ensures named { BulkAllNamed dialogue.old → BulkAllNamed dialogue.new }
-    ensures stands { IfOk result (λ _. (tables : Tables) (q : Question) (told : Said)
+    ensures stands { IfOk result (λ _. (tables : Tables) (q : Question) (told : Said) (by : BulkAskIs)
         → IsViewerOf tables q viewer.now
-        → SaysAll (bulk_asked_variables dialogue.old) answer.now told
-        → BulkStandsFor tables q told dialogue.old → BulkStandsFor tables q told dialogue.new) }
+        → SaysAll (bulk_request_by by dialogue.old) answer.now told
+        → BulkAskStands tables q told by dialogue.old → BulkStandsFor tables q told dialogue.new) }
     ensures fails { IfOk result FailsOrGoesOn }
     ensures err { OnErr result (BulkSaysSame dialogue.old dialogue.new) }
 {
@@ -178,7 +180,7 @@ pub(crate) fn take_bulk(
 /// ends with its front if that has a whole repetition.
 fn after_task(named: NamedTask, is_front: bool, viewer: &Viewer<'_>, late: bool) -> Onward
     ensures stands { (tables : Tables) (q : Question) (told : Said) → IsViewerOf tables q viewer.now
-        → TaskStands tables q told named.task → OnwardStands tables q told result }
+        → TaskHas tables q told named.task → OnwardStands tables q told result }
     ensures no_set { AsksNoSet result }
 {
     let NamedTask { task } = named;
@@ -197,8 +199,8 @@ fn after_task(named: NamedTask, is_front: bool, viewer: &Viewer<'_>, late: bool)
 /// Returns how a request goes on after its device's answer.
 pub(crate) fn after(named: NamedTask, taken: AnswerTaken, viewer: &Viewer<'_>, late: bool) -> Onward
     ensures stands { (tables : Tables) (q : Question) (told : Said) → IsViewerOf tables q viewer.now
-        → IsEndFor q taken
-        → TaskStands tables q told named.task → OnwardStands tables q told result }
+        → IsEndFor q told taken
+        → TaskHas tables q told named.task → OnwardStands tables q told result }
     ensures no_set { AsksNoSet result }
     ensures ends { (says : Says) → taken ≡ AnswerTaken.Ends says → result ≡ Onward.Ends (RequestEnd.Own says) }
 {

@@ -169,7 +169,7 @@ fn reply_own(
     sealing: &Sealing,
 ) -> Result<Reply, AllocError>
     ensures sent { IfOk result (λ reply. (client : List ℕ) (q : Question) (said : Said)
-        → question_given client (given_of taken.now) ≡ Some q → IsOwnStatus q says
+        → question_given client (given_of taken.now) ≡ Some q → IsOwnStatus q said says
         → IsReplyTo (answering agent.old sealing.now) agent.old.tables q said (given_of taken.now) reply) }
     ensures same { SameAgent agent.old agent.new }
     ensures err { OnErr result (agent.new ≡ agent.old) }

@@ -16,7 +16,7 @@ ghost use Rattle.snmp_gate.specs.SetBegins.{SetStandsSo};
 ghost use Rattle.snmp_gate.specs.Sets.{KeepsSets};
 ghost use Rattle.snmp_gate.specs.Waiting.{ClientHappens, GateStands, IsAsBefore, IsRefusedBy, SameButSets, Stays};
 ghost use Rattle.snmp_gate.specs.Work.{EndingStands, OnwardStands};
-ghost use Rattle.snmp_gate.specs.Said.{Said};
+ghost use Rattle.snmp_gate.specs.Said.{IsUnasked, Said};
 ghost use Rattle.snmp_gate.specs.declared.devices.Device.{Device as DeviceIs};
 ghost use Rattle.vacm_core.specs.Tables.{Tables};
 
@@ -60,7 +60,8 @@ fn place_of(
 
 /// Returns the end of a request by a Response with this status, and the request's own bindings.
 fn own(status: i32, index: i32) -> RequestEnd
-    ensures { (tables : Tables) (q : Question) (told : Said) → IsSet q → EndingStands tables q told result }
+    ensures { (tables : Tables) (q : Question) (told : Said) → IsSet q → IsUnasked told
+        → EndingStands tables q told result }
 {
     RequestEnd::Own(ResponseStatus { status, index })
 }
@@ -68,7 +69,7 @@ fn own(status: i32, index: i32) -> RequestEnd
 /// Returns what becomes of a request that goes on so, and which came now.
 fn work_of(device: usize, now: u64, onward: Onward) -> Work
     ensures begins { (tables : Tables) (devices : List DeviceIs) (q : Question)
-        → ((told : Said) → OnwardStands tables q told onward) → IsDeviceOf devices q.context device
+        → ((told : Said) → IsUnasked told → OnwardStands tables q told onward) → IsDeviceOf devices q.context device
         → BeginsWell tables devices q result }
     ensures fresh { IsNew now result }
 {
@@ -109,7 +110,7 @@ fn set_access(
     message: &WaitingMessage,
 ) -> Result<SetAccess, AllocError>
     ensures ends { IfOk result (λ access. IfSome access.refused (λ ending. (q : Question) (told : Said)
-        → EndingStands tables.now q told ending)) }
+        → IsUnasked told → EndingStands tables.now q told ending)) }
     ensures may { IfOk result (λ access. (access.refused ≡ None) → (q : Question)
         → question_in message.now ≡ Some q → IsSet q → MaySetAll tables.now q) }
 {
@@ -389,7 +390,7 @@ impl Gate {
     fn begin_read(&self, device: usize, taken: &Taken<'_>) -> Result<Onward, AllocError>
         requires { device < length self.now.devices.list.items }
         ensures { IfOk result (λ onward. (client : List ℕ) (q : Question) (told : Said)
-            → question_given client (given_of taken.now) ≡ Some q
+            → IsUnasked told → question_given client (given_of taken.now) ≡ Some q
             → OnwardStands self.now.agent.tables q told onward) }
     {
         let device = &self.devices.list[device];
@@ -462,7 +463,7 @@ impl Gate {
     ) -> Result<Option<RequestEnd>, AllocError>
         requires { device < length self.old.devices.list.items }
         ensures ends { IfOk result (λ refused. IfSome refused (λ ending. (q : Question) (told : Said)
-            → IsSet q → EndingStands self.old.agent.tables q told ending)) }
+            → IsSet q → IsUnasked told → EndingStands self.old.agent.tables q told ending)) }
         ensures may { IfOk result (λ refused. (refused ≡ None) → (q : Question)
             → question_in message.now ≡ Some q → IsSet q → MaySetAll self.old.agent.tables q) }
         ensures same { SameButSets self.old self.new }

@@ -18,7 +18,7 @@ ghost use Rattle.snmp_gate.specs.Noting.{AsksSet};
 ghost use Rattle.snmp_gate.specs.Taking.{AnswerPlace, IsCommunityOfWork, OpenSaysSame, TaskSaysSame, WaitsFor};
 ghost use Rattle.snmp_gate.specs.Taking.{EndsAsSaid, WorkAfter, WorkSaysSame};
 ghost use Rattle.snmp_gate.specs.Waiting.{DeviceHappens, GateStands, IsAsBefore, Stays};
-ghost use Rattle.snmp_gate.specs.Work.{SaysAll, TaskStands, variables_of_task};
+ghost use Rattle.snmp_gate.specs.Work.{SaysAll, TaskHas, TaskStands, request_of_task};
 ghost use Rattle.snmp_gate.specs.Said.{Said};
 ghost use Rattle.snmp_gate.specs.declared.work.OpenRequest.{OpenRequest as OpenIs};
 ghost use Rattle.snmp_gate.specs.declared.work.Work.TheVariants.{Open};
@@ -40,6 +40,13 @@ use std::alloc::{AllocError, Global};
 use std::mem;
 use vacm_core::Vacm;
 
+/// Takes the device's answer to a Set of so many bindings.
+fn take_set(answer: &Pdu<'_>, bindings: usize) -> AnswerTaken
+    ensures { EndsSet answer.now result }
+{
+    AnswerTaken::Ends(set_outcome(answer.second, answer.third, bindings))
+}
+
 /// Takes the device's answer to what it was asked. The error is out of memory, and nothing changes.
 fn take_task(
     alloc: Global,
@@ -50,23 +57,23 @@ fn take_task(
 ) -> Result<AnswerTaken, AllocError>
     ensures stands { IfOk result (λ taken. (tables : Tables) (q : Question) (told : Said)
         → IsViewerOf tables q viewer.now
-        → SaysAll (variables_of_task q named.old.task) answer.now told
+        → SaysAll (request_of_task q named.old.task) answer.now told
         → TaskStands tables q told named.old.task
-        → TaskStands tables q told named.new.task × IsEndFor q taken) }
+        → TaskHas tables q told named.new.task × IsEndFor q told taken) }
     ensures set { IfOk result (λ taken. named.old.task ≡ TaskIs.Set → EndsSet answer.now taken) }
     ensures err { OnErr result (TaskSaysSame named.old.task named.new.task) }
 {
     match &mut named.task {
         Task::Read(_, dialogue) => take_read(alloc, dialogue, viewer, answer),
         Task::Bulk(_, dialogue) => take_bulk(alloc, dialogue, viewer, answer),
-        Task::Set => Ok(AnswerTaken::Ends(set_outcome(answer.second, answer.third, bindings))),
+        Task::Set => Ok(take_set(answer, bindings)),
     }
 }
 
 /// Returns what becomes of a request whose device answered so.
 fn work_after(asked: OpenRequest, taken: AnswerTaken, viewer: &Viewer<'_>, late: bool) -> Work
     ensures after { (tables : Tables) (q : Question) (told : Said) → IsViewerOf tables q viewer.now
-        → IsEndFor q taken → TaskStands tables q told asked.task.task → WorkAfter tables q told asked result }
+        → IsEndFor q told taken → TaskHas tables q told asked.task.task → WorkAfter tables q told asked result }
     ensures no_set { ¬ AsksSet result }
     ensures fresh { IsFresh result }
     ensures ends { (says : Says) → taken ≡ AnswerTaken.Ends says → result ≡ Work.Ends (RequestEnd.Own says) }
@@ -125,9 +132,9 @@ fn take_open(
 ) -> Result<AnswerTaken, AllocError>
     ensures stands { IfOk result (λ taken. (q : Question) (told : Said)
         → question_in message.now ≡ Some q
-        → SaysAll (variables_of_task q waiting.old.task.task) answer.now told
+        → SaysAll (request_of_task q waiting.old.task.task) answer.now told
         → TaskStands tables.now q told waiting.old.task.task
-        → TaskStands tables.now q told waiting.new.task.task × IsEndFor q taken) }
+        → TaskHas tables.now q told waiting.new.task.task × IsEndFor q told taken) }
     ensures device { waiting.new.device ≡ waiting.old.device }
     ensures timer { waiting.new.timer ≡ waiting.old.timer }
     ensures set { IfOk result (λ taken. waiting.old.task.task ≡ TaskIs.Set → EndsSet answer.now taken) }
@@ -149,8 +156,8 @@ fn after_answer(
     lateness: Lateness,
 ) -> Work
     ensures after { (o : OpenIs) (q : Question) (told : Said)
-        → question_in message.now ≡ Some q → old ≡ Open o → IsEndFor q became
-        → TaskStands tables.now q told o.task.task → WorkAfter tables.now q told o result }
+        → question_in message.now ≡ Some q → old ≡ Open o → IsEndFor q told became
+        → TaskHas tables.now q told o.task.task → WorkAfter tables.now q told o result }
     ensures no_set { ¬ AsksSet result }
     ensures fresh { IsFresh result }
     ensures ends { (o : OpenIs) (says : Says) → old ≡ Open o → became ≡ AnswerTaken.Ends says
@@ -178,7 +185,7 @@ fn take_answer(
 ) -> Result<(), AllocError>
     ensures after { IfOk result (λ _. (o : OpenIs) (q : Question) (told : Said)
         → question_in message.now ≡ Some q → work.old ≡ Open o
-        → SaysAll (variables_of_task q o.task.task) answer.now told
+        → SaysAll (request_of_task q o.task.task) answer.now told
         → TaskStands tables.now q told o.task.task → WorkAfter tables.now q told o work.new) }
     ensures no_set { IfOk result (λ _. ¬ AsksSet work.new) }
     ensures fresh { IfOk result (λ _. IsFresh work.new) }

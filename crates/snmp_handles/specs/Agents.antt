@@ -4,7 +4,8 @@
 --
 -- `MakesAgent`: an agent of a configuration; `begins`: one that took nothing yet. `IsEngineAt`: an engine
 -- ID that an engine may have (`IsOwnEngine`; RFC 3411, section 5) and boots that it can have.
--- `RefusesAgent`: why there is none, the first that applies.
+-- `RefusesAgent`: why there is none, the first that applies. `Reconfigures`: it has the users and the tables of
+-- another configuration, and its counters go on.
 --
 -- `TakesHeld`: what is accepted is kept; of a refusal the report is left. `TakesNoMemory`: the datagram is
 -- refused, isn't opened, and no report on it is offered. `IsAsked`: what is kept is of the Confirmed Class.
@@ -99,6 +100,16 @@ MakesAgent config engine boots started (Ok made) =
     × ((users : List User) × (tables : Tables) × Loads config users tables
     × (made ≡ begins engine boots started users tables))
 MakesAgent config engine boots started (Err fault) = RefusesAgent config engine boots fault
+
+-- Users and tables are those of the configuration, and all else is as it was: the engine, its boots, the counters, and
+-- what is held. A refusal changes nothing.
+abbrev pub Reconfigures : {V : Type 0} → AgentHeld → List ℕ → Result V CallFault → AgentHeld → Type 0
+Reconfigures old config (Ok done) new =
+    (users : List User) × (tables : Tables) × Loads config users tables
+    × (new ≡ record old { agent = record old.agent { users = users; tables = tables } })
+Reconfigures old config (Err BadConfiguration) new = ((fault : ConfigFault) × RefusesText config fault) × (new ≡ old)
+Reconfigures old config (Err (Refused fault)) new = (fault ≡ OutOfMemory) × (new ≡ old)
+Reconfigures old config (Err _) new = ⊥
 
 -- no row in any table
 abbrev pub no_rows : Tables

@@ -9,5 +9,6 @@ pub mod Faults
 pub mod Numbers
 pub mod Bindings
 pub mod Parts
+pub mod Kept
 pub mod Walks
 pub mod Configurations

@@ -1,14 +1,18 @@
-//! Why a configuration is refused, for callers in other languages.
+//! Why a configuration is refused, for callers in other languages, and an agent that has another one.
 
 ghost use Rattle.std.specs.Prelude.{◌≡◌, IfOk};
+ghost use Rattle.snmp_handles.specs.Agents.{Reconfigures};
 ghost use Rattle.snmp_handles.specs.Configurations.{TellsConfig, IsTold, numbers_of as numbers_by, row_numbers};
 ghost use Rattle.snmp_handles.specs.Configurations.{table_number as table_by, key_number as key_by};
 ghost use Rattle.snmp_handles.specs.Configurations.{wrong_number as wrong_by};
 
+use crate::agent::AgentHandle;
 use crate::fault::CallFault;
 use crate::parts::copy_to;
 use snmp_msg::Refusal;
-use snmpsec_config::{AccessConfig, ConfigFault, ConfigKey, ConfigTable, KeyFault, LoadFault};
+use snmpsec_config::{
+    AccessConfig, Config, ConfigFault, ConfigKey, ConfigTable, KeyFault, LoadFault,
+};
 use std::alloc::{AllocError, Global};
 
 /// How many numbers tell a fault.
@@ -148,5 +152,24 @@ fn wrong_number(wrong: LoadFault) -> usize
         LoadFault::DuplicateUser => 8,
         LoadFault::BadRow => 9,
         LoadFault::Duplicate => 10,
+    }
+}
+
+impl AgentHandle {
+    /// Users and view-based access become those of this configuration, in TOML. The engine, its boots, all counters,
+    /// what was accepted last and what is to be sent stay.
+    ///
+    /// The errors are BadConfiguration, or out of memory; nothing changes then.
+    pub fn reconfigure(&mut self, config: &[u8]) -> Result<(), CallFault>
+        ensures { Reconfigures self.old config.now result self.new }
+    {
+        match Config::read(self.alloc, config) {
+            Ok(config) => {
+                self.agent.reconfigure(config.users, config.access);
+                Ok(())
+            }
+            Err(ConfigFault::OutOfMemory) => Err(CallFault::Refused(Refusal::OutOfMemory)),
+            Err(_) => Err(CallFault::BadConfiguration),
+        }
     }
 }

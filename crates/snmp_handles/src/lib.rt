@@ -30,6 +30,7 @@ mod configuration;
 mod dispatch;
 mod fault;
 mod in_range;
+mod kept;
 mod manager;
 mod many_requests;
 mod numbers;
@@ -44,6 +45,7 @@ pub use fault::{
     CallFault, access_code_of, answer_code_of, code_of, status_code_of, unhandled_code_of,
     value_code_of,
 };
+pub use kept::KeptHandle;
 pub use manager::{AskedOf, ManagerHandle};
 pub use numbers::{counter_of, level_of, unhandled_of, view_of};
 pub use parts::{Part, copied_message, copied_part, max_size_of, numbers_of};

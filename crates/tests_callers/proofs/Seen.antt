@@ -11,11 +11,13 @@ use Rattle.snmp_walk.specs.Column.{MayShow}
 use Rattle.snmp_walk.specs.declared.operation.ReadOperation.{ReadOperation}
 use Rattle.snmp_walk.specs.declared.operation.ReadOperation.TheVariants.{Get, GetNext}
 use Rattle.snmp_gate.specs.History.{Happening, MayAskFor, MayAskName, reads, bulk, sets, told_in}
-use Rattle.snmp_gate.specs.Messages.{seen_in}
+use Rattle.gateway_laws.specs.Requests.{RequestPdu}
+use Rattle.snmp_gate.specs.DeviceMessages.{IsRequestFor}
+use Rattle.snmp_gate.specs.Messages.{seen_in, set_in}
 use Rattle.snmp_gate.specs.Question.{Question}
 use Rattle.snmp_gate.specs.Replies.{Answering, IsAnswerTo, IsReported, IsSent, MayTellBulk, MayTellValues, Told, columns, front, set}
 use Rattle.snmp_gate.specs.Said.{Said}
-use Rattle.snmp_gate.specs.Waiting.{SendHappens, answering_at}
+use Rattle.snmp_gate.specs.Waiting.{Fresh, SendHappens, answering_at}
 use Rattle.snmp_gate.specs.declared.devices.Device.{Device as DeviceIs}
 use Rattle.snmp_gate.specs.declared.gate.Gate.{Gate}
 use Rattle.snmp_gate.specs.declared.gate.Sent.{Sent}
@@ -39,44 +41,46 @@ values : (tables : Tables) (q : Question) (said : Said) (vs : List Variable) →
 values tables q said vs (columns operation tag each whole) = λ k d lt.
     shown (seen_in tables q) (variables_of q.list) said.variables operation _ _
     (AllZip-get_or (λ (asked v : Variable). MayShow (seen_in tables q) said.variables operation asked.name v) (variables_of q.list) vs k d d each (subst (λ (n : ℕ). k < n) (sym (length_all_zip _ (variables_of q.list) vs each)) lt))
-values tables q said vs (front tag each) =
+values tables q said vs (front tag each non_repeaters max_repetitions first most whole) =
     All-weaker (MayTellBulk (seen_in tables q) said.variables (variables_of q.list)) (IsOwnOrSeen (seen_in tables q) (variables_of q.list) said.variables)
     (λ v may. shown (seen_in tables q) (variables_of q.list) said.variables GetNext _ v may.shows) vs each
 values tables q said vs (set tag own) = of_own tables q said.variables vs own
 
-asks : (tables : Tables) (d : DeviceIs) (q : Question) (said : Said) (id : ℕ) (vs : List Variable) (datagram : List ℕ) → MayAskFor tables d q said id vs datagram → AsksSeen tables q said datagram d
-asks tables d q said id vs datagram (reads Get tag each ask) =
-    gets id vs ask
-    (All-weaker (MayAskName q tables said Get) (λ v. seen_in tables q v.name) (λ v may. subst (seen_in tables q) (sym may.may.0) may.may.1) vs each)
-asks tables d q said id vs datagram (reads GetNext tag each ask) = walks GetNextRequest id (pos 0) (pos 0) vs ask each
-asks tables d q said id vs datagram (bulk type second third which tag each ask) = walks type id (pos second) (pos third) vs ask each
-asks tables d q said id vs datagram (sets community write tag same each ask) = hidden.sets community id vs write ask each
+asks : (tables : Tables) (d : DeviceIs) (q : Question) (said : Said) (id : ℕ) (r : RequestPdu) (datagram : List ℕ) → MayAskFor tables d q said id r datagram → AsksSeen tables q said datagram d
+asks tables d q said id r datagram (reads Get tag each same ask) =
+    gets id r.variables (subst (IsRequestFor datagram d.community.items id) same ask)
+    (All-weaker (MayAskName q tables said Get) (λ v. seen_in tables q v.name) (λ v may. subst (seen_in tables q) (sym may.may.0) may.may.1) r.variables each)
+asks tables d q said id r datagram (reads GetNext tag each same ask) = walks GetNextRequest id (pos 0) (pos 0) r.variables (subst (IsRequestFor datagram d.community.items id) same ask) each
+asks tables d q said id r datagram (bulk which tag each ask) = walks r.type id (pos r.non_repeaters) (pos r.max_repetitions) r.variables ask each
+asks tables d q said id r datagram (sets community write tag same each ask) =
+    hidden.sets community id (variables_of q.list) write (subst (IsRequestFor datagram community.items id) same ask)
+    (subst (λ (x : RequestPdu). All (λ (v : Variable). set_in tables q v.name) x.variables) same each)
 
 answers : (by : Answering) (tables : Tables) (q : Question) (said : Said) (g : Given) (datagram : List ℕ) → IsAnswerTo by tables q said g datagram → IsReported by g datagram ⊎ ((told : Told) × IsSent by g told datagram × All (IsOwnOrSeen (seen_in tables q) (variables_of q.list) said.variables) told.variables)
 answers by tables q said g datagram (inr report) = inl report
-answers by tables q said g datagram (inl (told, sent, inl (none, may))) = inr (told, sent, values tables q said told.variables may)
-answers by tables q said g datagram (inl (told, sent, inr (inl (some, own)))) = inr (told, sent, of_own tables q said.variables told.variables own)
-answers by tables q said g datagram (inl (told, sent, inr (inr (big, none)))) = inr (told, sent, subst (All (IsOwnOrSeen (seen_in tables q) (variables_of q.list) said.variables)) (sym none) (λ k d lt. absurd (omega (arith, lt))))
+answers by tables q said g datagram (inl (told, sent, (status, inl (none, may)))) = inr (told, sent, values tables q said told.variables may)
+answers by tables q said g datagram (inl (told, sent, (status, inr (inl (some, own))))) = inr (told, sent, of_own tables q said.variables told.variables own)
+answers by tables q said g datagram (inl (told, sent, (status, inr (inr (big, none))))) = inr (told, sent, subst (All (IsOwnOrSeen (seen_in tables q) (variables_of q.list) said.variables)) (sym none) (λ k d lt. absurd (omega (arith, lt))))
 
-client_shown : (old new : Gate) (now : ℕ) (before : List Happening) (salt : List ℕ) (number : ℕ) (to datagram : Vec ℕ) → SendHappens old now before salt (out.ToClient number to datagram) new → KeepsHidden old before (Client to datagram)
-client_shown old new now before salt number to datagram (m, same, happens) =
+client_shown : (old new : Gate) (now : ℕ) (before : List Happening) (f : Fresh) (number : ℕ) (to datagram : Vec ℕ) → SendHappens old now before f (out.ToClient number to datagram) new → KeepsHidden old before (Client to datagram)
+client_shown old new now before f number to datagram (m, same, happens) =
     let mediated = happens.lawful.mediated in
-    (number, m, answering_at old now salt, same, mediated.0, λ q asks. answers (answering_at old now salt) old.agent.tables q (told_in number before) m.kept datagram.items (mediated.1 q asks))
+    (number, m, answering_at old now f.salt, same, mediated.0, λ q asks. answers (answering_at old now f.salt) old.agent.tables q (told_in number before) m.kept datagram.items (mediated.1 q asks))
 
-pub to_client : (old new : Gate) (now : ℕ) (before : List Happening) (salt : List ℕ) (sent : Sent) (number : ℕ) (to datagram : Vec ℕ) → sent ≡ out.ToClient number to datagram → SendHappens old now before salt sent new → KeepsHidden old before (Client to datagram)
-to_client old new now before salt sent number to datagram is happens =
-    client_shown old new now before salt number to datagram (subst (λ s. SendHappens old now before salt s new) is happens)
+pub to_client : (old new : Gate) (now : ℕ) (before : List Happening) (f : Fresh) (sent : Sent) (number : ℕ) (to datagram : Vec ℕ) → sent ≡ out.ToClient number to datagram → SendHappens old now before f sent new → KeepsHidden old before (Client to datagram)
+to_client old new now before f sent number to datagram is happens =
+    client_shown old new now before f number to datagram (subst (λ s. SendHappens old now before f s new) is happens)
 
-device_asked : (old new : Gate) (now : ℕ) (before : List Happening) (salt : List ℕ) (number to : ℕ) (datagram : Vec ℕ) → SendHappens old now before salt (out.ToDevice number to datagram) new → KeepsHidden old before (Device to datagram)
-device_asked old new now before salt number to datagram (id, vs, happens) =
+device_asked : (old new : Gate) (now : ℕ) (before : List Happening) (f : Fresh) (number to : ℕ) (datagram : Vec ℕ) → SendHappens old now before f (out.ToDevice number to datagram) new → KeepsHidden old before (Device to datagram)
+device_asked old new now before f number to datagram (id, request, from, happens) =
     let mediated = happens.lawful.mediated in (
       number,
       mediated.0,
       mediated.1,
       mediated.2,
-      λ d. asks old.agent.tables (slice_index_or old.devices.list.items to d) mediated.0 (told_in number before) id vs datagram.items (mediated.3 d),
+      λ d. asks old.agent.tables (slice_index_or old.devices.list.items to d) mediated.0 (told_in number before) id request datagram.items (mediated.3 d),
     )
 
-pub to_device : (old new : Gate) (now : ℕ) (before : List Happening) (salt : List ℕ) (sent : Sent) (number to : ℕ) (datagram : Vec ℕ) → sent ≡ out.ToDevice number to datagram → SendHappens old now before salt sent new → KeepsHidden old before (Device to datagram)
-to_device old new now before salt sent number to datagram is happens =
-    device_asked old new now before salt number to datagram (subst (λ s. SendHappens old now before salt s new) is happens)
+pub to_device : (old new : Gate) (now : ℕ) (before : List Happening) (f : Fresh) (sent : Sent) (number to : ℕ) (datagram : Vec ℕ) → sent ≡ out.ToDevice number to datagram → SendHappens old now before f sent new → KeepsHidden old before (Device to datagram)
+to_device old new now before f sent number to datagram is happens =
+    device_asked old new now before f number to datagram (subst (λ s. SendHappens old now before f s new) is happens)

@@ -52,6 +52,101 @@ def ask(manager, message_id, user, level, **more):
     return manager.message()
 
 
+class KeptOutside(unittest.TestCase):
+    """Requests that wait outside of their agent for their Responses."""
+
+    LATER = NOW + 40
+
+    def setUp(self):
+        self.agent, self.other, self.manager = Agent(CONFIG, ENGINE, BOOTS, NOW - TIME), Agent(CONFIG, ENGINE, BOOTS, NOW - TIME), Manager(CONFIG)
+        for it in (self.agent, self.other, self.manager):
+            self.addCleanup(it.close)
+        self.agent.take(NOW, ask(self.manager, 1, b"ann", Level.AUTH_NO_PRIV))
+        self.assertIsNone(self.manager.take(NOW, self.agent.message()))
+
+    def kept(self, message_id, level=Level.AUTH_PRIV):
+        request = ask(self.manager, message_id, b"ann", level)
+        self.assertIsNone(self.agent.take(NOW, request))
+        return request, self.agent.keep()
+
+    def test_many_are_answered_out_of_order(self):
+        waiting = [self.kept(message_id, list(LEVELS)[message_id % 3]) for message_id in range(100, 160)]
+        self.assertIsNone(self.agent.info())
+        self.assertRaises(snmpsec.NothingTaken, self.agent.keep)
+        while waiting:
+            request, kept = waiting.pop(len(waiting) // 3)
+            salt = len(waiting)
+            self.assertIsNone(self.other.take(NOW, request))
+            self.assertEqual((self.other.info(), self.other.max_size()), (kept.info(), kept.max_size()))
+            self.assertEqual([self.other.part(part) for part in Part], [kept.part(part) for part in Part])
+            self.other.respond(self.LATER, HELLO, salt)
+            with kept:
+                kept.respond(self.agent, self.LATER, HELLO, salt)
+            self.assertEqual(self.other.message(), self.agent.message())
+            self.assertIsNone(self.manager.take(self.LATER, self.agent.message()))
+            self.assertRaises(ValueError, kept.info)
+
+    def test_another_configuration_counts_on(self):
+        request, kept = self.kept(100)
+        before = self.agent.counters()
+        with self.assertRaises(snmpsec.BadConfiguration) as refused:
+            self.agent.reconfigure(b"[[user]]\nname = 'ann'\nauht = 'md5'\n")
+        self.assertEqual(snmpsec.ConfigReason.UNLISTED_KEY, refused.exception.fault.reason)
+        self.agent.reconfigure(b"")
+        self.assertEqual(before, self.agent.counters())
+        self.assertRaises(snmpsec.Refused, kept.respond, self.agent, self.LATER, HELLO, 1)
+        self.assertEqual(Refusal.UNKNOWN_USER, self.agent.take(NOW, request))
+        self.assertEqual(before.unknown_users + 1, self.agent.counters().unknown_users)
+        self.agent.reconfigure_from_file(FOLDER / "config.toml")
+        kept.respond(self.agent, self.LATER, HELLO, 1)
+        self.assertIsNone(self.manager.take(self.LATER, self.agent.message()))
+
+    def test_what_is_kept_goes_back(self):
+        _, first = self.kept(100)
+        _, second = self.kept(200)
+        self.assertRaises(snmpsec.NothingTaken, self.agent.access, View.READ, NAME)
+        self.agent.restore(first)
+        self.agent.restore(second)
+        self.assertEqual(200, self.agent.info().message_id)
+        self.assertEqual(Access.NO_SUCH_CONTEXT, self.agent.access(View.READ, NAME))
+        self.assertRaises(ValueError, second.info)
+        self.assertRaises(ValueError, self.agent.restore, second)
+
+    def test_another_agent_answers_within_a_limit(self):
+        _, kept = self.kept(100)
+        self.agent.close()
+        long = snmpsec.binding(NAME, 4, bytes(600))
+        with Agent(CONFIG, ENGINE, BOOTS + 1, NOW) as agent, kept:
+            with self.assertRaises(snmpsec.Refused) as refused:
+                kept.respond_within(agent, self.LATER, long, 1, 484)
+            self.assertEqual(Refusal.TOO_LARGE, refused.exception.refusal)
+            self.assertIsNone(agent.message())
+            self.assertEqual(0, kept.respond_front(agent, self.LATER, long, 2, 484))
+            self.assertEqual(1, kept.respond_front(agent, self.LATER, long, 3, 2000))
+            self.assertRaises(snmpsec.BadArgument, kept.respond, agent, self.LATER, HELLO, 4, error_status=1 << 31)
+            self.assertRaises(snmpsec.BadBindings, kept.respond, agent, self.LATER, b"junk", 5)
+            self.assertIsNone(self.manager.take(self.LATER, agent.message()))
+            self.assertTrue(self.manager.reply().is_response)
+        self.assertRaises(ValueError, kept.respond, self.agent, self.LATER, HELLO, 6)
+
+    def test_threads_keep_and_answer(self):
+        kept = [self.kept(message_id)[1] for message_id in range(100, 140)]
+
+        def answer(some):
+            for it in some:
+                it.respond(self.agent, self.LATER, HELLO, it.info().message_id)
+                self.agent.restore(it)
+
+        threads = [threading.Thread(target=answer, args=(kept[i::4],)) for i in range(4)]
+        for thread in threads:
+            thread.start()
+        for thread in threads:
+            thread.join()
+        self.assertIsNotNone(self.agent.info())
+        for it in kept:
+            self.assertRaises(ValueError, it.info)
+
+
 class Many(unittest.TestCase):
     """Many requests at once, which an agent answers in any order."""
 

@@ -3,10 +3,10 @@
 use crate::calls::{
     self, snmpsec_agent_access, snmpsec_agent_counters, snmpsec_agent_counts, snmpsec_agent_free,
     snmpsec_agent_info, snmpsec_agent_max_size, snmpsec_agent_message, snmpsec_agent_new,
-    snmpsec_agent_next, snmpsec_agent_notify, snmpsec_agent_part, snmpsec_agent_refuse,
-    snmpsec_agent_respond, snmpsec_agent_respond_front, snmpsec_agent_respond_within,
-    snmpsec_agent_silent_drop, snmpsec_agent_take, snmpsec_agent_unhandled,
-    snmpsec_agent_user_access, snmpsec_status_of,
+    snmpsec_agent_next, snmpsec_agent_notify, snmpsec_agent_part, snmpsec_agent_reconfigure,
+    snmpsec_agent_refuse, snmpsec_agent_respond, snmpsec_agent_respond_front,
+    snmpsec_agent_respond_within, snmpsec_agent_silent_drop, snmpsec_agent_take,
+    snmpsec_agent_unhandled, snmpsec_agent_user_access, snmpsec_status_of,
 };
 use crate::fault::{done, Error};
 use crate::held::{Calls, Held};
@@ -25,7 +25,7 @@ static CALLS: Calls = Calls {
 
 /// An agent, which one thread uses at a time.
 pub struct Agent {
-    held: Held,
+    pub(crate) held: Held,
 }
 
 /// An SNMPv2-Trap that is to be written.
@@ -124,6 +124,12 @@ impl Agent {
             )
         })?;
         Ok(Agent { held })
+    }
+
+    /// Users and tables become those of a changed configuration. The engine ID, the boots, the moment of the start, all counters, what is kept
+    /// and the message stay. The errors are BadConfiguration and OutOfMemory, and nothing changes then.
+    pub fn reconfigure(&mut self, config: &[u8]) -> Result<(), Error> {
+        done(unsafe { snmpsec_agent_reconfigure(self.held.at(), config.as_ptr(), config.len()) })
     }
 
     /// Takes a datagram: what is accepted is kept, and of what is refused the report is the message.

@@ -11,6 +11,10 @@ pub struct Opaque {
     _private: [u8; 0],
 }
 
+/// What lies behind a handle of another kind than that of a call's name: a message that is kept, in a call on an agent, or an agent, in a call
+/// on a message that is kept.
+pub type Other = Opaque;
+
 /// Octets of a slice.
 #[repr(C)]
 #[derive(Clone, Copy)]
@@ -182,6 +186,11 @@ extern "C" {
         out: *mut *mut Opaque,
     ) -> i32;
     pub fn snmpsec_agent_free(agent: *mut Opaque);
+    pub fn snmpsec_agent_reconfigure(
+        agent: *mut Opaque,
+        config: *const u8,
+        config_len: usize,
+    ) -> i32;
     pub fn snmpsec_agent_take(agent: *mut Opaque, now: u64, datagram: *const u8, len: usize)
         -> i32;
     pub fn snmpsec_agent_info(agent: *mut Opaque, out: *mut Info) -> i32;
@@ -258,6 +267,52 @@ extern "C" {
     pub fn snmpsec_agent_unhandled(agent: *mut Opaque, out: *mut u32) -> i32;
     pub fn snmpsec_agent_refuse(agent: *mut Opaque, now: u64, why: u32, salt: u64) -> i32;
     pub fn snmpsec_agent_silent_drop(agent: *mut Opaque) -> i32;
+    pub fn snmpsec_agent_keep(agent: *mut Opaque, out: *mut *mut Other) -> i32;
+    pub fn snmpsec_agent_restore(agent: *mut Opaque, kept: *mut Other) -> i32;
+
+    pub fn snmpsec_kept_free(kept: *mut Opaque);
+    pub fn snmpsec_kept_info(kept: *mut Opaque, out: *mut Info) -> i32;
+    pub fn snmpsec_kept_part(
+        kept: *mut Opaque,
+        part: u32,
+        out: *mut u8,
+        out_len: usize,
+        written: *mut usize,
+    ) -> i32;
+    pub fn snmpsec_kept_max_size(kept: *mut Opaque, out: *mut u32) -> i32;
+    pub fn snmpsec_kept_respond(
+        kept: *mut Opaque,
+        agent: *mut Other,
+        now: u64,
+        error_status: u32,
+        error_index: u32,
+        list: *const u8,
+        list_len: usize,
+        salt: u64,
+    ) -> i32;
+    pub fn snmpsec_kept_respond_within(
+        kept: *mut Opaque,
+        agent: *mut Other,
+        now: u64,
+        error_status: u32,
+        error_index: u32,
+        list: *const u8,
+        list_len: usize,
+        salt: u64,
+        limit: u32,
+    ) -> i32;
+    pub fn snmpsec_kept_respond_front(
+        kept: *mut Opaque,
+        agent: *mut Other,
+        now: u64,
+        error_status: u32,
+        error_index: u32,
+        list: *const u8,
+        list_len: usize,
+        salt: u64,
+        limit: u32,
+        count: *mut usize,
+    ) -> i32;
     pub fn snmpsec_agent_counts(agent: *mut Opaque, out: *mut Counts) -> i32;
     pub fn snmpsec_status_of(access: u32, pdu: u32, out: *mut u32) -> i32;
     pub fn snmpsec_agent_notify(agent: *mut Opaque, now: u64, notice: *const Notice<'_>) -> i32;

@@ -38,6 +38,20 @@ pub fn copied(call: impl Fn(*mut u8, usize, *mut usize) -> i32) -> Result<Vec<u8
     told.map(|()| out)
 }
 
+/// The numbers that a call writes.
+pub fn numbers(call: impl FnOnce(*mut calls::Info) -> i32) -> Result<Info, Error> {
+    let mut info = calls::Info::default();
+    done(call(&mut info))?;
+    Ok(Info {
+        level: Level::of(info.level).ok_or(Error::Other(info.level))?,
+        pdu: info.pdu,
+        request_id: info.request_id,
+        error_status: info.error_status,
+        error_index: info.error_index,
+        message_id: info.message_id,
+    })
+}
+
 impl Held {
     /// The handle that a call writes, which these calls are for.
     pub fn of(
@@ -59,16 +73,7 @@ impl Held {
     }
 
     pub fn info(&self) -> Result<Info, Error> {
-        let mut info = calls::Info::default();
-        done(unsafe { (self.calls.info)(self.at(), &mut info) })?;
-        Ok(Info {
-            level: Level::of(info.level).ok_or(Error::Other(info.level))?,
-            pdu: info.pdu,
-            request_id: info.request_id,
-            error_status: info.error_status,
-            error_index: info.error_index,
-            message_id: info.message_id,
-        })
+        numbers(|info| unsafe { (self.calls.info)(self.at(), info) })
     }
 
     pub fn part(&self, part: Part) -> Result<Vec<u8>, Error> {

@@ -80,6 +80,25 @@
 //! # }
 //! ```
 //!
+//! A message that is answered later is kept outside of its agent, and any number may wait so:
+//!
+//! ```no_run
+//! # use snmpsec::Response;
+//! # fn main() -> Result<(), snmpsec::Error> {
+//! # let (mut agent, datagrams): (snmpsec::Agent, Vec<Vec<u8>>) = todo!();
+//! let mut waiting = Vec::new();
+//! for datagram in &datagrams {
+//!     agent.take(1000, datagram)?;
+//!     waiting.push(agent.keep()?);
+//! }
+//! while let Some(mut kept) = waiting.pop() {
+//!     kept.respond(&mut agent, 1002, &Response::default(), 1)?;
+//!     let _response = agent.message()?;
+//! }
+//! # Ok(())
+//! # }
+//! ```
+//!
 //! Handles go to other threads, and one thread uses each at a time:
 //!
 //! ```
@@ -103,6 +122,7 @@ mod device;
 mod fault;
 mod gate;
 mod held;
+mod kept;
 mod keys;
 mod manager;
 mod words;
@@ -113,6 +133,7 @@ pub use config::{config_fault, ConfigFault, ConfigReason, ConfigTable};
 pub use device::{Device, Known, Step};
 pub use fault::{Error, Refusal};
 pub use gate::{datagram_user, gate_fault, ClientTaken, DeviceTaken, Gate, GateDevice, Sent};
+pub use kept::{Kept, Response};
 pub use keys::{localise, mac, open, password_key, seal, wipe, Protocol};
 pub use manager::{Answer, Clock, Manager, Reply, Report, Request};
 pub use words::{Access, Info, Level, Part, Pdu, Status, Unhandled, View};

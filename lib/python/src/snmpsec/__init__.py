@@ -5,6 +5,9 @@
         if refusal is None and agent.allows(View.READ, (1, 3, 6, 1, 2, 1, 1, 1, 0)): ..
         agent.message()                         # the report or the Response, or None
 
+        kept = agent.keep()                     # one that is answered later, beside any number of others
+        kept.respond(agent, now, octets, salt)
+
     with Manager.from_file("agent.toml") as manager:
         manager.discover(message_id)
         manager.message()                       # the request that is to be sent
@@ -30,6 +33,7 @@ that is made of a memoryview that is read-only or whose octets don't lie one aft
 """
 from __future__ import annotations
 
+import contextlib
 import ctypes
 import operator
 import os
@@ -41,11 +45,11 @@ from . import _library
 from ._library import CALLS, Octets as _Slice
 
 __version__ = "0.1.0"
-__all__ = ["Access", "Agent", "Answered", "AuthProtocol", "BadArgument", "BadBindings", "BadClocks", "BadConfiguration", "Binding", "Clock",
-           "ConfigFault", "ConfigKey", "ConfigReason", "ConfigTable", "Counters", "Counts", "Device", "Error", "Gate", "GateDevice", "GateEvent",
-           "GateSent", "Info", "Known", "LARGEST", "Level", "Manager", "NO_CLOCKS", "NotAsked", "NothingTaken", "Part", "Pdu", "Refusal", "Refused",
-           "Reply", "Report", "Status", "Step", "TooManyRequests", "Unhandled", "View", "binding", "bindings", "config_fault", "datagram_user",
-           "gate_fault", "localise", "mac", "open_text", "password_key", "seal_text", "status_of", "value_is", "version"]
+__all__ = ["Access", "Agent", "Answered", "AuthProtocol", "BadArgument", "BadBindings", "BadClocks", "BadConfiguration", "Binding", "Clock", "ConfigFault",
+           "ConfigKey", "ConfigReason", "ConfigTable", "Counters", "Counts", "Device", "Error", "Gate", "GateDevice", "GateEvent", "GateSent", "Info", "Kept",
+           "Known", "LARGEST", "Level", "Manager", "NO_CLOCKS", "NotAsked", "NothingTaken", "Part", "Pdu", "Refusal", "Refused", "Reply", "Report", "Status",
+           "Step", "TooManyRequests", "Unhandled", "View", "binding", "bindings", "config_fault", "datagram_user", "gate_fault", "localise", "mac", "open_text",
+           "password_key", "seal_text", "status_of", "value_is", "version"]
 
 Buffer = Union[bytes, bytearray, memoryview]
 Path = Union[str, "os.PathLike[str]"]
@@ -403,6 +407,14 @@ def wiped(path: Path, use: Callable[[bytearray], _Made]) -> _Made:
         octets[:] = bytes(len(octets))
 
 
+def _or_none(told: Callable[..., _Made], *arguments: Any) -> Optional[_Made]:
+    """What is told, or None where there is nothing."""
+    try:
+        return told(*arguments)
+    except NothingTaken:
+        return None
+
+
 def _slice(octets: Buffer) -> _Slice:
     return _Slice(bytes(octets), len(octets))
 
@@ -509,28 +521,26 @@ def open_text(key: Buffer, boots: int, time: int, salt: Buffer, text: Buffer) ->
     return _changed(CALLS["open"], key, boots, time, salt, text)
 
 
-_Handle = TypeVar("_Handle", bound="_Handled")
+_Handle = TypeVar("_Handle", bound="_Object")
 
 
-class _Handled:
-    """What an agent, a manager and a gateway have in common."""
+class _Object:
+    """What the library makes, and is freed by its _free."""
 
     _kind = ""
     _handle: Optional[ctypes.c_void_p] = None
 
-    def __init__(self, config: Buffer, *arguments: Any):
+    def __init__(self, handle: ctypes.c_void_p):
         self._lock = threading.Lock()
-        handle = ctypes.c_void_p()
-        try:
-            _done(CALLS[f"{self._kind}_new"](*_octets(config), *arguments, ctypes.byref(handle)))
-        except BadConfiguration as refused:
-            raise self._refused(config, str(refused)) from None
         self._handle = handle
 
-    @staticmethod
-    def _refused(config: Buffer, words: str) -> BadConfiguration:
-        fault = config_fault(config)
-        return BadConfiguration(fault.text if fault else words, fault)
+    @contextlib.contextmanager
+    def _lent(self) -> Iterator[ctypes.c_void_p]:
+        """The handle, while nobody else uses it. Where two are lent the agent's is lent first."""
+        with self._lock:
+            if not self._handle:
+                raise ValueError("closed")
+            yield self._handle
 
     def _call(self, name: str, *arguments: Any) -> Any:
         with self._lock:
@@ -539,7 +549,7 @@ class _Handled:
             return CALLS[f"{self._kind}_{name}"](self._handle, *arguments)
 
     def close(self) -> None:
-        """Frees the handle, with its keys wiped. Calls after it are ValueError."""
+        """Frees the handle, with what it holds wiped. Calls after it are ValueError."""
         if self._handle is None:
             return
         with self._lock:
@@ -556,12 +566,26 @@ class _Handled:
     def __del__(self) -> None:
         self.close()
 
+
+class _Handled(_Object):
+    """What an agent, a manager and a gateway have in common."""
+
+    def __init__(self, config: Buffer, *arguments: Any):
+        handle = ctypes.c_void_p()
+        try:
+            _done(CALLS[f"{self._kind}_new"](*_octets(config), *arguments, ctypes.byref(handle)))
+        except BadConfiguration as refused:
+            raise self._refused(config, str(refused)) from None
+        super().__init__(handle)
+
+    @staticmethod
+    def _refused(config: Buffer, words: str) -> BadConfiguration:
+        fault = config_fault(config)
+        return BadConfiguration(fault.text if fault else words, fault)
+
     def message(self) -> Optional[bytes]:
         """The message to be sent, or None."""
-        try:
-            return _copied(self._call, "message")
-        except NothingTaken:
-            return None
+        return _or_none(_copied, self._call, "message")
 
 
 class _Counting(_Handled):
@@ -578,7 +602,24 @@ class _Counting(_Handled):
         return Counts(*(getattr(out, name) for name, _ in out._fields_))
 
 
-class _Held(_Handled):
+class _Keeping(_Object):
+    """What is said of a message that was accepted; NothingTaken where there is none."""
+
+    def _info(self) -> Info:
+        out = _library.Info()
+        _done(self._call("info", ctypes.byref(out)))
+        return Info(Level(out.level), out.pdu, out.request_id, out.error_status, out.error_index, out.message_id)
+
+    def _part(self, part: Part) -> bytes:
+        return _copied(self._call, "part", part)
+
+    def _max_size(self) -> int:
+        out = _library.Written()
+        _done(self._call("max_size", ctypes.byref(out)))
+        return out.value
+
+
+class _Held(_Keeping, _Handled):
     """What an agent and a manager have in common."""
 
     def take(self, now: int, datagram: Buffer) -> Optional[Refusal]:
@@ -587,28 +628,15 @@ class _Held(_Handled):
 
     def info(self) -> Optional[Info]:
         """The numbers of what is kept, or None."""
-        out = _library.Info()
-        try:
-            _done(self._call("info", ctypes.byref(out)))
-        except NothingTaken:
-            return None
-        return Info(Level(out.level), out.pdu, out.request_id, out.error_status, out.error_index, out.message_id)
+        return _or_none(self._info)
 
     def part(self, part: Part) -> Optional[bytes]:
         """A part of what is kept, or None."""
-        try:
-            return _copied(self._call, "part", part)
-        except NothingTaken:
-            return None
+        return _or_none(self._part, part)
 
     def max_size(self) -> Optional[int]:
         """How many octets the sender of what is kept takes (msgMaxSize), or None."""
-        out = _library.Written()
-        try:
-            _done(self._call("max_size", ctypes.byref(out)))
-        except NothingTaken:
-            return None
-        return out.value
+        return _or_none(self._max_size)
 
 
 class Agent(_Held, _Counting):
@@ -622,6 +650,17 @@ class Agent(_Held, _Counting):
     @classmethod
     def from_file(cls, path: Path, engine: Buffer, boots: int, started: int) -> "Agent":
         return wiped(path, lambda config: cls(config, engine, boots, started))
+
+    def reconfigure(self, config: Buffer) -> None:
+        """Users and tables become those of a changed configuration. The engine ID, the boots, the moment of the start, all counters, what is kept and
+        the message stay. On an error, as BadConfiguration, nothing changes."""
+        try:
+            _done(self._call("reconfigure", *_octets(config)))
+        except BadConfiguration as refused:
+            raise self._refused(config, str(refused)) from None
+
+    def reconfigure_from_file(self, path: Path) -> None:
+        wiped(path, self.reconfigure)
 
     def access(self, view: View, name: Sequence[int]) -> Access:
         """Whether the sender of what is kept may see the variable, or why not."""
@@ -678,12 +717,64 @@ class Agent(_Held, _Counting):
         """Counts what is kept in snmpSilentDrops: even its answer without bindings is too long (RFC 3416, section 4.2.1)."""
         _done(self._call("silent_drop"))
 
+    def keep(self) -> "Kept":
+        """Takes what is kept out of the agent, which keeps no message then, until the next take. The message that is to be sent stays."""
+        out = _library.Other()
+        _done(self._call("keep", ctypes.byref(out)))
+        return Kept(ctypes.c_void_p(out.value))
+
+    def restore(self, kept: "Kept") -> None:
+        """Puts it back, and closes it: the agent keeps it, instead of what it kept, as if it had been accepted last. So access, next, unhandled and
+        refuse are asked of a message that waited."""
+        with self._lent() as agent, kept._lent() as other:
+            _done(CALLS["agent_restore"](agent, _library.Other(other.value)))
+            kept._handle = None
+
     def notify(self, now: int, *, user: Buffer, level: Level, octets: Buffer, salt: int, message_id: int, request_id: int,
                context_engine: Buffer, context_name: Buffer = b"") -> None:
         """Writes an SNMPv2-Trap, as the message."""
         notice = _library.Notice(_ranged(message_id), _ranged(request_id), level, _slice(user), _slice(context_engine), _slice(context_name),
                                  _slice(octets), _ranged(salt, 64))
         _done(self._call("notify", _ranged(now, 64), ctypes.byref(notice)))
+
+
+class Kept(_Keeping):
+    """A message that an agent accepted, kept outside of it by `Agent.keep`: any number may wait for their Responses, which are written in any order.
+    Its text lies in memory as it was decrypted until it is closed, and is wiped then."""
+
+    _kind = "kept"
+
+    def info(self) -> Info:
+        """Its numbers."""
+        return self._info()
+
+    def part(self, part: Part) -> bytes:
+        """A part of it."""
+        return self._part(part)
+
+    def max_size(self) -> int:
+        """How many octets its sender takes (msgMaxSize)."""
+        return self._max_size()
+
+    def respond(self, agent: Agent, now: int, octets: Buffer, salt: int, error_status: int = 0, error_index: int = 0) -> None:
+        """Writes the Response to it, as the agent's message. What the agent keeps stays. The agent may be another one than that which accepted it,
+        as one that was made of a new configuration."""
+        self._answer("respond", agent, now, octets, salt, error_status, error_index)
+
+    def respond_within(self, agent: Agent, now: int, octets: Buffer, salt: int, limit: int, error_status: int = 0, error_index: int = 0) -> None:
+        """The same where it has at most `limit` octets; else it is Refused as TOO_LARGE."""
+        self._answer("respond_within", agent, now, octets, salt, error_status, error_index, _ranged(limit))
+
+    def respond_front(self, agent: Agent, now: int, octets: Buffer, salt: int, limit: int, error_status: int = 0, error_index: int = 0) -> int:
+        """The Response with as many of the bindings, from the first on, as have room in `limit` octets, and how many they are."""
+        count = ctypes.c_size_t()
+        self._answer("respond_front", agent, now, octets, salt, error_status, error_index, _ranged(limit), ctypes.byref(count))
+        return count.value
+
+    def _answer(self, name: str, agent: Agent, now: int, octets: Buffer, salt: int, error_status: int, error_index: int, *more: Any) -> None:
+        with agent._lent() as other:
+            _done(self._call(name, _library.Other(other.value), _ranged(now, 64), _ranged(error_status), _ranged(error_index), *_octets(octets),
+                             _ranged(salt, 64), *more))
 
 
 class Device:

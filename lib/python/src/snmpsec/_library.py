@@ -23,6 +23,10 @@ class Written(c_uint32):
     """A number, which is written."""
 
 
+class Other(c_void_p):
+    """A handle of another kind than that of a call's name: a message that is kept, in a call on an agent, or an agent, in one on a message."""
+
+
 class Octets(ctypes.Structure):
     _fields_ = [("at", c_char_p), ("len", c_size_t)]
 
@@ -104,6 +108,7 @@ SIGNATURES = {
     "error_name": (c_char_p, [c_int]),
     "config_fault": (c_int, _slice + [POINTER(ConfigPlace)] + _out),
     "agent_new": (c_int, _slice * 2 + [c_uint32, c_uint64, POINTER(c_void_p)]),
+    "agent_reconfigure": (c_int, [c_void_p] + _slice),
     "agent_access": (c_int, [c_void_p, c_uint] + _arcs + [POINTER(Enumeration)]),
     "agent_next": (c_int, [c_void_p, c_uint] + _arcs + [POINTER(Written), c_size_t, POINTER(c_size_t)]),
     "agent_user_access": (c_int, [c_void_p, Octets, c_uint, Octets, c_uint] + _arcs + [POINTER(Enumeration)]),
@@ -113,9 +118,18 @@ SIGNATURES = {
     "agent_unhandled": (c_int, [c_void_p, POINTER(Enumeration)]),
     "agent_refuse": (c_int, [c_void_p, c_uint64, c_uint, c_uint64]),
     "agent_silent_drop": (c_int, [c_void_p]),
+    "agent_keep": (c_int, [c_void_p, POINTER(Other)]),
+    "agent_restore": (c_int, [c_void_p, Other]),
     "agent_notify": (c_int, [c_void_p, c_uint64, POINTER(Notice)]),
     "agent_counters": (c_int, [c_void_p, POINTER(Counters)]),
     "agent_counts": (c_int, [c_void_p, POINTER(Counts)]),
+    "kept_free": (None, [c_void_p]),
+    "kept_info": (c_int, [c_void_p, POINTER(Info)]),
+    "kept_part": (c_int, [c_void_p, c_uint] + _out),
+    "kept_max_size": (c_int, [c_void_p, POINTER(Written)]),
+    "kept_respond": (c_int, [c_void_p, Other, c_uint64, c_uint32, c_uint32] + _slice + [c_uint64]),
+    "kept_respond_within": (c_int, [c_void_p, Other, c_uint64, c_uint32, c_uint32] + _slice + [c_uint64, c_uint32]),
+    "kept_respond_front": (c_int, [c_void_p, Other, c_uint64, c_uint32, c_uint32] + _slice + [c_uint64, c_uint32, POINTER(c_size_t)]),
     "status_of": (c_int, [c_uint, c_uint, POINTER(Enumeration)]),
     "manager_new": (c_int, _slice * 2 + [c_uint64, POINTER(c_void_p)]),
     "manager_reply": (c_int, [c_void_p, POINTER(Reply)]),

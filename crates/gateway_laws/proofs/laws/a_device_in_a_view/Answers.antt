@@ -10,4 +10,4 @@ pub returns-clause-next : goal.returns-clause-next
 returns-clause-next c viewer device told asked steps first last response is begin same run shown = run_next device (seen_by viewer) is told asked steps first last response begin same run shown
 
 pub returns-clause-taken : goal.returns-clause-taken
-returns-clause-taken c viewer device old new answer becomes is truly step = is_taken device is (seen_by viewer) old new answer becomes truly step
+returns-clause-taken c viewer device old new answer becomes is truly none step = is_taken device is (seen_by viewer) old new answer becomes truly none step

@@ -14,6 +14,6 @@ returns c tables q told stands =
     let viewer = viewer_for tables q in
     let is = is_viewer_for tables q in
     let well = c.one_bulk_dialogue.ensures.inwards viewer told.variables [] d d (from_seen (λ (Seen : List ℕ → Type 0). BulkAllStand Seen told.variables d) tables q viewer is stands.stand) refl in
-    bulk (bulk_type c.args.by) (non_repeaters_in c.args.by) (max_repetitions_in c.args.by) (type_asked c.args.by) stands.tag
-    (bulk_columns_ask tables q told stands.non_repeaters stands.max_repetitions d.columns.items stands.requests_are (to_seen (λ (Seen : List ℕ → Type 0). All (BulkAsksWell Seen told.variables) d.columns.items) tables q viewer is well))
+    bulk (type_asked c.args.by) stands.tag
+    (bulk_columns_ask tables q told d.non_repeaters d.max_repetitions d.columns.items stands.requests_are (to_seen (λ (Seen : List ℕ → Type 0). All (BulkAsksWell Seen told.variables) d.columns.items) tables q viewer is well))
     (subst (λ (community : List ℕ). IsRequest c.in_ok-datagram.datagram.items community (bulk_type c.args.by) c.args.id (pos (non_repeaters_in c.args.by)) (pos (max_repetitions_in c.args.by)) (bulk_asked_variables d)) c.deref.ensures.value c.in_ok-datagram.ensures.ask)

@@ -15,5 +15,5 @@ returns c tables q told stands =
     let is = is_viewer_for tables q in
     let well = c.one_dialogue.ensures.inwards viewer told.variables [] d d (from_seen (λ (Seen : List ℕ → Type 0). AllStand Seen told.variables d) tables q viewer is stands.stand) refl in
     reads c.args.operation stands.tag
-    (columns_ask tables q told c.args.operation d.columns.items stands.requests_are (to_seen (λ (Seen : List ℕ → Type 0). All (AsksWell Seen told.variables) d.columns.items) tables q viewer is well))
+    (columns_ask tables q told c.args.operation d.columns.items stands.requests_are (to_seen (λ (Seen : List ℕ → Type 0). All (AsksWell Seen told.variables) d.columns.items) tables q viewer is well)) refl
     (subst (λ (community : List ℕ). IsAsk c.in_ok-datagram.datagram.items community (read_type c.args.operation) c.args.id (asked_variables d)) c.deref.ensures.value c.in_ok-datagram.ensures.ask)

@@ -1,7 +1,17 @@
+use Rattle.std.proofs.Common.{arith}
+use Rattle.std.proofs.lemmas.Slice.Zip.{AllZip-long}
+use Rattle.snmp_msg.specs.Variables.{variables_of}
+use Rattle.vacm_core.specs.declared.access.ViewType.TheVariants.{Read}
+use Rattle.snmp_gate.specs.Messages.{IsAnswerFor}
 use Rattle.snmp_gate.proofs.begin.begin.Goals as goal
 
 pub returns-in-Some : goal.returns-in-Some
-returns-in-Some c tables q told viewer of = c.ending_of.ensures tables q told
+returns-in-Some c tables q told nothing viewer of = c.ending_of.ensures tables q told nothing
 
 pub returns-then-len-gt-MOST_VARIABLES : goal.returns-then-len-gt-MOST_VARIABLES
-returns-then-len-gt-MOST_VARIABLES c tables q told viewer of = c.asks_too_much.ensures tables q told
+returns-then-len-gt-MOST_VARIABLES c tables q told nothing viewer of = c.asks_too_much.ensures tables q told
+
+pub begin_bulk-requires : goal.begin_bulk-requires
+begin_bulk-requires c =
+    let answers = c.in_ok-answers.answers.items in
+    omega (arith, c.if-len-gt-MOST_VARIABLES.false, c.len.ensures, c.deref.ensures.len, AllZip-long (IsAnswerFor c.args.viewer.now Read) (variables_of c.args.pdu.now.list.now) answers c.in_ok-answers.ensures)

@@ -18,5 +18,5 @@ pub returns-clause-in_time : goal.returns-clause-in_time
 returns-clause-in_time c limits now o timely idle = idle_in_time (retries_in limits o.task.task) now o.timer timely.turn idle
 
 pub returns-clause-ends : goal.returns-clause-ends
-returns-clause-ends c first last now salt events stands bounded run =
-    let known = run_stands first (goes_out now salt Nothing ∷ events) last stands run in (known.history, known.is, run_in_time first last now salt events stands bounded run)
+returns-clause-ends c first last now f events stands bounded run =
+    let known = run_stands first (goes_out now f Nothing ∷ events) last stands run in (known.history, known.is, run_in_time first last now f events stands bounded run)

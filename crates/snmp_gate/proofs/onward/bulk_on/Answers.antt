@@ -1,10 +1,42 @@
-use Rattle.snmp_gate.proofs.Standing.{bulk_stands}
+use Rattle.std.proofs.Common.{◌∙◌}
+use Rattle.std.proofs.lemmas.Bool.{false≢true}
+use Rattle.std.proofs.lemmas.Bool.Decides.{Decides-int_eq}
+use Rattle.snmp_gate.specs.declared.set_answer.TheConstants.{GEN_ERR, NO_ERROR}
+use Rattle.snmp_gate.proofs.Telling.{no_bulk}
+use Rattle.std.proofs.Common.{ℕ, subst, sym}
+use Rattle.snmp_responder.specs.Code.{seen_by}
+use Rattle.snmp_walk.specs.BulkAsk.{IsAskOf, repetitions_due}
+use Rattle.snmp_walk.specs.BulkDialogue.{IsBulkNext}
+use Rattle.gateway_laws.proofs.BulkTrueRuns.{next_same}
+use Rattle.snmp_gate.proofs.Standing.{bulk_goes_tracking, bulk_stands}
 use Rattle.snmp_gate.proofs.onward.bulk_on.Goals as goal
 
 pub returns-in-Asks-clause-stands : goal.returns-in-Asks-clause-stands
 returns-in-Asks-clause-stands c tables q told viewer stands =
-    bulk_stands tables q told c.args.viewer.now c.args.dialogue c.go_on.new.self viewer (c.go_on.ensures.stand told.variables) c.go_on.ensures.requests stands
+    let d = c.args.dialogue in
+    let new = c.go_on.new.self in
+    let step = c.go_on.ensures.next in
+    let asks = subst (IsBulkNext (seen_by c.args.viewer.now) d new) c.in-Asks.is step in
+    let chosen = asks.1.chosen in record {
+      dialogue = bulk_stands tables q told c.args.viewer.now d new viewer (c.go_on.ensures.stand told.variables) (bulk_goes_tracking c.args.viewer.now told d new c.go_on.result step) (next_same (seen_by c.args.viewer.now) d new c.go_on.result step)
+          c.go_on.ensures.requests stands;
+      asked = record {
+        ask = chosen.keeps;
+        repetitions = repetitions_due d.repetitions d.max_repetitions chosen.fewest;
+        columns = subst (λ (n : ℕ). IsAskOf n (repetitions_due d.repetitions d.max_repetitions chosen.fewest) new.columns.items c.in-Asks.by) (sym asks.0.non_repeaters) chosen.asks;
+      };
+    }
 
 pub returns-in-Ends-clause-stands : goal.returns-in-Ends-clause-stands
 returns-in-Ends-clause-stands c tables q told viewer stands =
-    bulk_stands tables q told c.args.viewer.now c.args.dialogue c.go_on.new.self viewer (c.go_on.ensures.stand told.variables) c.go_on.ensures.requests stands
+    let d = c.args.dialogue in
+    let new = c.go_on.new.self in
+    let step = c.go_on.ensures.next in
+    bulk_stands tables q told c.args.viewer.now d new viewer (c.go_on.ensures.stand told.variables) (bulk_goes_tracking c.args.viewer.now told d new c.go_on.result step) (next_same (seen_by c.args.viewer.now) d new c.go_on.result step)
+    c.go_on.ensures.requests stands
+
+pub returns-in-RoundsUsedUp-clause-stands : goal.returns-in-RoundsUsedUp-clause-stands
+returns-in-RoundsUsedUp-clause-stands c tables q told viewer stands = record {
+  no_error = λ none. absurd (false≢true ((Decides-int_eq GEN_ERR NO_ERROR).1 (sym c.gen_err.ensures ∙ none)));
+  set = λ is_set. absurd (no_bulk q stands.tag is_set);
+}

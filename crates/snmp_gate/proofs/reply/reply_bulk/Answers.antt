@@ -4,17 +4,17 @@ use Rattle.snmp_msg.specs.declared.binding.Binding.{Binding}
 use Rattle.snmp_incoming.specs.Answers.{given_of}
 use Rattle.snmp_responder.specs.declared.viewer.Viewer.{Viewer}
 use Rattle.snmp_walk.specs.BulkDialogue.{BulkAllStand}
-use Rattle.snmp_walk.specs.Front.{IsShownOf}
+use Rattle.snmp_walk.specs.Front.{IsFront, IsShownOf}
 use Rattle.snmp_gate.specs.Messages.{IsViewerOf, seen_in}
 use Rattle.snmp_gate.specs.Replies.{IsFrontSentOr, answering}
 use Rattle.snmp_gate.proofs.Sending.{on_ok}
 use Rattle.snmp_gate.proofs.Standing.{from_seen, to_seen}
-use Rattle.snmp_gate.proofs.Telling.{front_reply, unwritten}
+use Rattle.snmp_gate.proofs.Telling.{front_reply, no_bulk, unwritten}
 use Rattle.snmp_gate.proofs.reply.reply_bulk.Goals as goal
 
 pub returns-then-not-can_be_written-clause-sent : goal.returns-then-not-can_be_written-clause-sent
 returns-then-not-can_be_written-clause-sent c =
-    on_ok c.reply_own.result _ _ (λ r sent client q said asked stands. sent client q said asked (unwritten q)) c.reply_own.ensures.sent
+    on_ok c.reply_own.result _ _ (λ r sent client q said asked stands. sent client q said asked (unwritten q said (no_bulk q stands.tag))) c.reply_own.ensures.sent
 
 pub returns-clause-sent : goal.returns-clause-sent
 returns-clause-sent c =
@@ -37,5 +37,6 @@ returns-clause-sent c =
     front_reply a tables q said g d bs r stands
     (subst (λ (ws : List Binding). All (IsShownOf (seen_in tables q) said.variables d.columns.items) (map variable_of ws)) (sym c.deref-2.ensures.value)
     (to_seen (λ (Seen : List ℕ → Type 0). All (IsShownOf Seen said.variables d.columns.items) (map variable_of c.in_ok-bindings.bindings.items)) tables q viewer is all))
+    (subst (λ (ws : List Binding). IsFront d.non_repeaters d.max_repetitions d.columns.items (map variable_of ws)) (sym c.deref-2.ensures.value) c.in_ok-bindings.ensures.front)
     sent)
     c.reply_front.ensures.sent

@@ -9,12 +9,12 @@ use Rattle.snmp_gate.specs.Messages.{IsViewerOf, seen_in}
 use Rattle.snmp_gate.specs.Replies.{IsSentOr, answering, told_with}
 use Rattle.snmp_gate.proofs.Sending.{on_ok}
 use Rattle.snmp_gate.proofs.Standing.{from_seen, to_seen}
-use Rattle.snmp_gate.proofs.Telling.{columns_reply, unwritten}
+use Rattle.snmp_gate.proofs.Telling.{columns_reply, no_read, unwritten}
 use Rattle.snmp_gate.proofs.reply.reply_columns.Goals as goal
 
 pub returns-then-not-can_be_written-clause-sent : goal.returns-then-not-can_be_written-clause-sent
 returns-then-not-can_be_written-clause-sent c =
-    on_ok c.reply_own.result _ _ (λ r sent client q said operation asked stands. sent client q said asked (unwritten q)) c.reply_own.ensures.sent
+    on_ok c.reply_own.result _ _ (λ r sent client q said operation asked stands. sent client q said asked (unwritten q said (no_read q operation stands.tag))) c.reply_own.ensures.sent
 
 pub returns-clause-sent : goal.returns-clause-sent
 returns-clause-sent c =

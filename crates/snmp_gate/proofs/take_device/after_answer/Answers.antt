@@ -1,7 +1,7 @@
 use Rattle.std.proofs.Common.{ap, subst, sym, ◌∙◌}
 use Rattle.snmp_gate.specs.Messages.{question_given}
 use Rattle.snmp_gate.specs.Taking.{WorkAfter}
-use Rattle.snmp_gate.specs.Work.{TaskStands}
+use Rattle.snmp_gate.specs.Work.{TaskHas}
 use Rattle.snmp_gate.specs.declared.work.OpenRequest.{OpenRequest}
 use Rattle.snmp_gate.proofs.Endings.{one_open}
 use Rattle.snmp_gate.proofs.take_device.after_answer.Goals as goal
@@ -13,4 +13,4 @@ returns-in-Open-clause-after c o q told asked is ends stands =
     let same = one_open c.args.old c.in-Open.waiting o c.in-Open.is is in
     let viewer = c.viewer_of-viewer.ensures client q (ap (question_given client) c.taken-taken.ensures ∙ asked) in
     subst (λ (x : OpenRequest). WorkAfter tables q told x c.work_after.result) same
-    (c.work_after.ensures.after tables q told viewer ends (subst (λ (x : OpenRequest). TaskStands tables q told x.task.task) (sym same) stands))
+    (c.work_after.ensures.after tables q told viewer ends (subst (λ (x : OpenRequest). TaskHas tables q told x.task.task) (sym same) stands))

@@ -1,5 +1,5 @@
 use Rattle.std.proofs.Common.{ap, subst, sym, ◌∙◌}
-use Rattle.snmp_gate.specs.Work.{SaysAll, TaskStands, variables_of_task}
+use Rattle.snmp_gate.specs.Work.{SaysAll, TaskStands, request_of_task}
 use Rattle.snmp_gate.specs.declared.work.OpenRequest.{OpenRequest}
 use Rattle.snmp_gate.proofs.Endings.{after_same, one_open}
 use Rattle.snmp_gate.proofs.take_device.take_answer.Goals as goal
@@ -9,7 +9,7 @@ returns-clause-after c o q told asked is says stands =
     let tables = c.args.tables.now in
     let same = one_open c.args.work.now c.in-Open.waiting o c.in-Open.is is in
     let took = c.in_ok-became.ensures.stands q told asked
-    (subst (λ (x : OpenRequest). SaysAll (variables_of_task q x.task.task) c.args.answer.now told) (sym same) says)
+    (subst (λ (x : OpenRequest). SaysAll (request_of_task q x.task.task) c.args.answer.now told) (sym same) says)
     (subst (λ (x : OpenRequest). TaskStands tables q told x.task.task) (sym same) stands) in
     let new : OpenRequest = c.take_open.new.waiting in
     after_same tables q told new o c.after_answer.result (c.in_ok-became.ensures.device ∙ ap (λ (x : OpenRequest). x.device) same)

@@ -1,8 +1,9 @@
-use Rattle.std.proofs.Common.{subst}
+use Rattle.std.proofs.Common.{subst, sym}
 use Rattle.snmp_gate.specs.Ends.{FailsOrGoesOn}
-use Rattle.snmp_gate.specs.Work.{SaysAll, TaskStands, variables_of_task}
+use Rattle.snmp_gate.specs.Work.{BulkAskStands, ReadStands, SaysAll, TaskHas, TaskStands, request_of_task}
 use Rattle.snmp_gate.specs.declared.task.Task.{Task}
-use Rattle.snmp_gate.proofs.Endings.{fails_end}
+use Rattle.snmp_gate.proofs.Endings.{fails_end, set_taken}
+use Rattle.snmp_gate.proofs.Telling.{no_bulk, no_read}
 use Rattle.snmp_gate.proofs.Sending.{on_both, on_ok}
 use Rattle.snmp_gate.proofs.take_device.take_task.Goals as goal
 
@@ -10,7 +11,22 @@ pub returns-in-Read-clause-stands : goal.returns-in-Read-clause-stands
 returns-in-Read-clause-stands c =
     on_ok c.take_read.result _ _ (λ taken both tables q told viewer says stands. (
       both.0 tables q told c.in-Read.field-0 viewer
-          (subst (λ (t : Task). SaysAll (variables_of_task q t) c.args.answer.now told) c.in-Read.is says)
+          (subst (λ (t : Task). SaysAll (request_of_task q t) c.args.answer.now told) c.in-Read.is says)
           (subst (TaskStands tables q told) c.in-Read.is stands),
-      fails_end q taken both.1,
+      fails_end q told taken (let known : ReadStands tables q told c.in-Read.field-0 c.in-Read.dialogue = subst (TaskStands tables q told) c.in-Read.is stands in no_read q c.in-Read.field-0 known.tag) both.1,
     )) (on_both c.take_read.result _ FailsOrGoesOn c.take_read.ensures.stands c.take_read.ensures.fails)
+
+pub returns-in-Bulk-clause-stands : goal.returns-in-Bulk-clause-stands
+returns-in-Bulk-clause-stands c =
+    on_ok c.take_bulk.result _ _ (λ taken both tables q told viewer says stands. (
+      both.0 tables q told c.in-Bulk.field-0 viewer
+          (subst (λ (t : Task). SaysAll (request_of_task q t) c.args.answer.now told) c.in-Bulk.is says)
+          (subst (TaskStands tables q told) c.in-Bulk.is stands),
+      fails_end q told taken (let known : BulkAskStands tables q told c.in-Bulk.field-0 c.in-Bulk.dialogue = subst (TaskStands tables q told) c.in-Bulk.is stands in no_bulk q known.dialogue.tag) both.1,
+    )) (on_both c.take_bulk.result _ FailsOrGoesOn c.take_bulk.ensures.stands c.take_bulk.ensures.fails)
+
+pub returns-in-Set-clause-stands : goal.returns-in-Set-clause-stands
+returns-in-Set-clause-stands c tables q told viewer says stands =
+    let all = subst (λ (t : Task). SaysAll (request_of_task q t) c.args.answer.now told) c.in-Set.is says in
+    let known = subst (TaskStands tables q told) c.in-Set.is stands in
+    (subst (TaskHas tables q told) (sym c.in-Set.is) known, set_taken tables q told c.args.answer.now c.take_set.result all known c.take_set.ensures)

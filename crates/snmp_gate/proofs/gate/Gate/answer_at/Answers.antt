@@ -6,6 +6,7 @@ use Rattle.snmp_gate.specs.declared.requests.WaitingRequest.{WaitingRequest}
 use Rattle.snmp_gate.specs.declared.requests.WaitingRequests.{WaitingRequests}
 use Rattle.snmp_gate.specs.declared.waiting_message.WaitingMessage.{WaitingMessage}
 use Rattle.snmp_gate.specs.declared.work.Work.{Work}
+use Rattle.snmp_gate.specs.Waiting.{fresh}
 use Rattle.snmp_gate.proofs.Bounded.{stays_answered, stays_counted}
 use Rattle.snmp_gate.proofs.GroupSteps.{on_err}
 use Rattle.snmp_gate.proofs.Histories.{IsLeftAfter}
@@ -17,7 +18,7 @@ pub reply_now-requires : goal.reply_now-requires
 reply_now-requires c = subst (λ (r : WaitingRequest WaitingMessage Work). HasEnded r.work) (sym c.index-request.ensures) (c.requires.ended c.index-request.result.now)
 
 pub returns-clause-happens : goal.returns-clause-happens
-returns-clause-happens c since before later stands =
+returns-clause-happens c since ask_id before later stands =
     let g = c.args.self.now in
     let r = c.index-request.result.now in
     let m = c.answer-message.result in
@@ -27,7 +28,7 @@ returns-clause-happens c since before later stands =
       next = ap (λ (rs : WaitingRequests WaitingMessage Work). rs.next) c.tell_set.ensures.same.requests ∙ c.answer-message.ensures.next;
       answer = subst (λ (rs : WaitingRequests WaitingMessage Work). IsAnswered (groups_of g.requests.list.items) c.args.place m (groups_of rs.list.items)) (sym c.tell_set.ensures.same.requests) c.answer-message.ensures.answered;
     } in
-    reply_happens g c.tell_set.new.self since c.args.now before c.args.place c.args.salt r m c.said_of-said.result m.client c.in_ok-reply.reply c.sent_by.result later c.requires.place c.index-request.ensures
+    reply_happens g c.tell_set.new.self since c.args.now before c.args.place (fresh c.args.salt ask_id) r m c.said_of-said.result m.client c.in_ok-reply.reply c.sent_by.result later c.requires.place c.index-request.ensures
     left refl c.in_ok-reply.ensures.sent c.sent_by.ensures.is c.tell_set.ensures.same.asks c.tell_set.ensures.told stands
 
 pub returns-clause-stays : goal.returns-clause-stays

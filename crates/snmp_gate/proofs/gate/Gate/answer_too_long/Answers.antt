@@ -5,7 +5,7 @@ use Rattle.snmp_gate.specs.Groups.{IsWorked, groups_of, with_work}
 use Rattle.snmp_gate.specs.History.{Happening}
 use Rattle.snmp_gate.specs.Question.{Question}
 use Rattle.snmp_gate.specs.Said.{Said}
-use Rattle.snmp_gate.specs.Waiting.{GateStands, SendHappens, asks_in, messages_in}
+use Rattle.snmp_gate.specs.Waiting.{Fresh, GateStands, SendHappens, asks_in, fresh, messages_in}
 use Rattle.snmp_gate.specs.Work.{EndingStands}
 use Rattle.snmp_gate.specs.declared.gate.Gate.{Gate}
 use Rattle.snmp_gate.specs.declared.gate.Sent.{Sent}
@@ -34,12 +34,12 @@ too_long_stands g requests place was e ends next worked since now before later s
 }
 
 -- what happens is the same, where only requests changed before
-send_same : (g : Gate) (requests : WaitingRequests WaitingMessage Work) (now : ℕ) (before : List Happening) (salt : List ℕ) (what : Sent) (new : Gate) → SendHappens (record g { requests = requests }) now before salt what new → SendHappens g now before salt what new
-send_same g requests now before salt (out.ToClient n to w) new h = (h.0, h.1, record { lawful = h.2.lawful; tried = h.2.tried; stands = h.2.stands })
-send_same g requests now before salt (out.ToDevice n to w) new h = (h.0, h.1, record { lawful = h.2.lawful; tried = h.2.tried; stands = h.2.stands })
-send_same g requests now before salt (out.Unanswered n why) new h = (h.0, record { lawful = h.1.lawful; tried = h.1.tried; stands = h.1.stands })
-send_same g requests now before salt (out.GivenUp n to) new h = record { lawful = h.lawful; tried = h.tried; stands = h.stands }
-send_same g requests now before salt out.Nothing new h = h
+send_same : (g : Gate) (requests : WaitingRequests WaitingMessage Work) (now : ℕ) (before : List Happening) (f : Fresh) (what : Sent) (new : Gate) → SendHappens (record g { requests = requests }) now before f what new → SendHappens g now before f what new
+send_same g requests now before f (out.ToClient n to w) new h = (h.0, h.1, record { lawful = h.2.lawful; tried = h.2.tried; stands = h.2.stands })
+send_same g requests now before f (out.ToDevice n to w) new h = (h.0, h.1, h.2, record { lawful = h.3.lawful; tried = h.3.tried; stands = h.3.stands })
+send_same g requests now before f (out.Unanswered n why) new h = (h.0, record { lawful = h.1.lawful; tried = h.1.tried; stands = h.1.stands })
+send_same g requests now before f (out.GivenUp n to) new h = record { lawful = h.lawful; tried = h.tried; stands = h.stands }
+send_same g requests now before f out.Nothing new h = h
 
 -- what is turned and turned back is as it was
 turned_back : (gs mid new : List Waiting) (place : ℕ) (was x r : Work) → IsWorked gs place was x mid → IsWorked mid place r was new → new ≡ gs
@@ -53,9 +53,9 @@ pub answer_at-requires-clause-ended : goal.answer_at-requires-clause-ended
 answer_at-requires-clause-ended c r = worked_ended c.args.self.now.requests.list.items c.work-before.new.self.list.items c.args.place c.work-before.result _ c.work-before.ensures.worked r
 
 pub returns-in-Ok-clause-happens : goal.returns-in-Ok-clause-happens
-returns-in-Ok-clause-happens c since before later stands =
+returns-in-Ok-clause-happens c since ask_id before later stands =
     let g = c.args.self.now in
-    send_same g c.work-before.new.self c.args.now before c.args.salt c.in-Ok.sent c.answer_at.new.self (c.in-Ok.ensures.happens c.args.now before (omega arith)
+    send_same g c.work-before.new.self c.args.now before (fresh c.args.salt ask_id) c.in-Ok.sent c.answer_at.new.self (c.in-Ok.ensures.happens c.args.now ask_id before (omega arith)
     (too_long_stands g c.work-before.new.self c.args.place c.work-before.result _ (too_long g.agent.tables) c.work-before.ensures.next c.work-before.ensures.worked since c.args.now before later stands))
 
 pub returns-in-Ok-clause-stays : goal.returns-in-Ok-clause-stays

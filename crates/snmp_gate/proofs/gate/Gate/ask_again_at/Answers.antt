@@ -1,4 +1,4 @@
-use Rattle.std.proofs.Common.{◌∷◌, refl, slice_index_or, arith}
+use Rattle.std.proofs.Common.{◌∷◌, inr, refl, slice_index_or, arith}
 use Rattle.snmp_gate.specs.Groups.{groups_of}
 use Rattle.snmp_gate.specs.History.{asked}
 use Rattle.snmp_gate.proofs.AsksKept.{asks_again, long_lists}
@@ -17,7 +17,7 @@ use Rattle.snmp_gate.proofs.Todos.{may_again, tried_less, open_again}
 use Rattle.snmp_gate.proofs.gate.Gate.ask_again_at.Goals as goal
 
 pub returns-clause-happens : goal.returns-clause-happens
-returns-clause-happens c since before salt later stands =
+returns-clause-happens c since before f later stands =
     let g = c.args.self.now in
     let rs = g.requests.list.items in
     let place = c.args.place in
@@ -32,25 +32,26 @@ returns-clause-happens c since before salt later stands =
     let known = asked_so_far g.agent.tables g.devices.list.items before g.requests.next rs place device n sets.request c.requires.place sets.is opened stands.requests in
     let fewer = tried_less g.limits g.asks.items c.args.now rs place known.waits sets.request c.requires.due (known.is_there sets.request) in
     let all = asked_all g.agent g.devices.list.items before g.requests.next rs new place device n id datagram c.requires.place opened may sets stands.requests in
-    let was = asked_before g.agent.tables g.devices.list.items before g.requests.next rs new place device n id datagram.items all.variables c.requires.place opened sets stands.requests id c.in-Some.ensures.1 in
-    let again = asks_again before n device id id all.variables datagram.items _ (omega (arith, c.if-device-len.false, c.len.ensures, long_lists g.asks.items)) stands.asks was.0 was.1 in (
+    let was = asked_before g.agent.tables g.devices.list.items before g.requests.next rs new place device n id datagram.items all.request c.requires.place opened sets stands.requests id c.in-Some.ensures.1 in
+    let again = asks_again before n device id id all.request datagram.items _ (omega (arith, c.if-device-len.false, c.len.ensures, long_lists g.asks.items)) stands.asks was.0 was.1 in (
       id,
-      all.variables,
+      all.request,
+      inr was,
       record {
         lawful = record {
           mediated = all.mediated;
           in_turn = tt;
           own_id = again.1;
-          once = asked_once g.agent.tables g.devices.list.items before g.requests.next rs new place device n id datagram.items all.variables c.requires.place opened sets stands.requests since g.sets.sets.items
-              (no_set_never g.agent.tables g.devices.list.items before g.requests.next rs new place device n id datagram.items all.variables c.requires.place opened sets stands.requests
+          once = asked_once g.agent.tables g.devices.list.items before g.requests.next rs new place device n id datagram.items all.request c.requires.place opened sets stands.requests since g.sets.sets.items
+              (no_set_never g.agent.tables g.devices.list.items before g.requests.next rs new place device n id datagram.items all.request c.requires.place opened sets stands.requests
               (at_read rs (λ (x : WaitingRequest WaitingMessage Work). ¬ AsksSet x.work) place c.index.result.now c.requires.place c.index.ensures (λ set. false≢true (c.if-is_set_at.ensures.1 set)))) stands.sets;
         };
         tried = omega (arith, known.tried, fewer, c.tries-tries.type_inv, c.tries-tries.ensures);
         stands = record {
-          requests = moved g.agent.tables g.agent.tables g.devices.list.items g.devices.list.items (asked n device id all.variables datagram.items ∷ before) g.requests.next c.set_asked.new.requests.next (groups_of new) (groups_of new)
+          requests = moved g.agent.tables g.agent.tables g.devices.list.items g.devices.list.items (asked n device id all.request datagram.items ∷ before) g.requests.next c.set_asked.new.requests.next (groups_of new) (groups_of new)
               refl refl c.set_asked.ensures.next refl all.stands;
           asks = again.0;
-          sets = asked_sets g.agent.tables g.devices.list.items before g.requests.next rs new place device n id datagram.items all.variables c.requires.place opened sets stands.requests since c.args.now g.sets.sets.items later stands.sets;
+          sets = asked_sets g.agent.tables g.devices.list.items before g.requests.next rs new place device n id datagram.items all.request c.requires.place opened sets stands.requests since c.args.now g.sets.sets.items later stands.sets;
         };
       },
     )
@@ -77,13 +78,13 @@ pub returns-in_err-datagram-clause-stays : goal.returns-in_err-datagram-clause-s
 returns-in_err-datagram-clause-stays c = stays_same c.args.self.now
 
 pub returns-then-is_set_at-clause-happens : goal.returns-then-is_set_at-clause-happens
-returns-then-is_set_at-clause-happens c since before salt later stands = c.give_up_at.ensures.happens since c.args.now before salt later stands
+returns-then-is_set_at-clause-happens c since before f later stands = c.give_up_at.ensures.happens since c.args.now before f later stands
 
 pub returns-in_default-clause-happens : goal.returns-in_default-clause-happens
-returns-in_default-clause-happens c since before salt later stands = c.give_up_at-in_default.ensures.happens since c.args.now before salt later stands
+returns-in_default-clause-happens c since before f later stands = c.give_up_at-in_default.ensures.happens since c.args.now before f later stands
 
 pub returns-then-device-len-clause-happens : goal.returns-then-device-len-clause-happens
-returns-then-device-len-clause-happens c since before salt later stands = c.give_up_at-then-device-len.ensures.happens since c.args.now before salt later stands
+returns-then-device-len-clause-happens c since before f later stands = c.give_up_at-then-device-len.ensures.happens since c.args.now before f later stands
 
 pub returns-in_default-2-clause-happens : goal.returns-in_default-2-clause-happens
-returns-in_default-2-clause-happens c since before salt later stands = c.give_up_at-in_default-2.ensures.happens since c.args.now before salt later stands
+returns-in_default-2-clause-happens c since before f later stands = c.give_up_at-in_default-2.ensures.happens since c.args.now before f later stands

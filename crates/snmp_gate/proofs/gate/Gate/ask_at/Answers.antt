@@ -1,4 +1,4 @@
-use Rattle.std.proofs.Common.{arith, [], ◌++◌, ◌≡◌, ◌<◌, ◌∷◌, ◌∙◌, ℕ, List, Some, length, slice_index_or, ap, inl, refl, subst, sym}
+use Rattle.std.proofs.Common.{arith, [], ◌%◌, ◌++◌, ◌≡◌, ◌<◌, ◌∷◌, ◌∙◌, ℕ, List, Some, length, slice_index_or, ap, inl, refl, subst, sym}
 use Rattle.std.proofs.lemmas.List.{get_or_default, length_push}
 use Rattle.std.proofs.lemmas.List.Elements.{at_read}
 use Rattle.snmp_gate.specs.Bounds.{IsTimely, MayBeAsked}
@@ -22,7 +22,9 @@ use Rattle.snmp_gate.proofs.Histories.{asked_all, asked_so_far, moved}
 use Rattle.snmp_gate.proofs.Keeping.{stands_kept, stays_as_before}
 use Rattle.snmp_gate.proofs.SetsGoing.{asked_once, asked_sets, unasked_never}
 use Rattle.snmp_gate.proofs.SetsKept.{keeps_same}
-use Rattle.snmp_gate.specs.Waiting.{AsksStand, asks_in}
+use Rattle.snmp_gate.specs.Waiting.{AsksStand, asks_in, fresh}
+use Rattle.snmp_gate.specs.declared.asks.TheConstants.{REQUEST_IDS}
+use Rattle.snmp_gate.proofs.Sending.{on_ok}
 use Rattle.snmp_gate.proofs.gate.Gate.ask_at.Goals as goal
 
 -- what is read twice is the same
@@ -73,34 +75,36 @@ returns-clause-happens c since before later stands =
     let inside = (room_at g.limits g.asks.items c.args.now rs place device n c.requires.place c.requires.due opened).within in
     let lists = asks_in g.asks.items in
     let in_lists : device < length lists = omega (arith, inside, long_lists g.asks.items) in
-    let free = is_free_in g.asks.items device c.index.result.now c.args.ask_id id inside c.index.ensures c.free_id-id.ensures.free in
-    let asks = asks_asked before n device id c.args.ask_id all.variables datagram.items lists in_lists stands.asks free in
-    let here = subst (λ (x : DeviceAsks). IsNextFree x.asks.items c.args.ask_id id) (read_same g.asks.items device c.index.result.now c.index_mut.result.now inside c.index.ensures c.index_mut.ensures.value) c.free_id-id.ensures.free in
-    let again = free_again c.index_mut.result.now.asks.items c.args.ask_id id c.in_ok-ask.field-0 c.free_id-id.ensures.small here c.in_ok-ask.ensures.ok.0 in
+    let free = is_free_in g.asks.items device c.index.result.now (c.args.ask_id % REQUEST_IDS) id inside c.index.ensures c.free_id-id.ensures.free in
+    let asks = asks_asked before n device id (c.args.ask_id % REQUEST_IDS) all.request datagram.items lists in_lists stands.asks free in
+    let here = subst (λ (x : DeviceAsks). IsNextFree x.asks.items (c.args.ask_id % REQUEST_IDS) id) (read_same g.asks.items device c.index.result.now c.index_mut.result.now inside c.index.ensures c.index_mut.ensures.value) c.free_id-id.ensures.free in
+    let again = free_again c.index_mut.result.now.asks.items (c.args.ask_id % REQUEST_IDS) id c.in_ok-ask.field-0 c.free_id-id.ensures.small here c.in_ok-ask.ensures.ok.0 in
     let now_in = asks_of_asked g.asks.items device c.index_mut.result.now c.ask.new.self id n inside c.index_mut.ensures.value
     (c.in_ok-ask.ensures.ok.1 ∙ ap (λ (i : ℕ). c.index_mut.result.now.asks.items ++ ask_of i n ∷ []) again) in (
       id,
-      all.variables,
+      all.request,
+      inl free,
       record {
         lawful = record {
           mediated = all.mediated;
           in_turn = tt;
-          own_id = free_own before n device id c.args.ask_id all.variables datagram.items lists in_lists stands.asks free;
-          once = asked_once g.agent.tables g.devices.list.items before g.requests.next rs new place device n id datagram.items all.variables c.requires.place opened sets stands.requests since g.sets.sets.items
-              (unasked_never g.agent.tables g.devices.list.items before g.requests.next rs new place device n id datagram.items all.variables c.requires.place opened sets stands.requests (λ r. unasked g.limits g.asks.items c.args.now (slice_index_or rs place r).work (c.requires.due r))) stands.sets;
+          own_id = free_own before n device id (c.args.ask_id % REQUEST_IDS) all.request datagram.items lists in_lists stands.asks free;
+          once = asked_once g.agent.tables g.devices.list.items before g.requests.next rs new place device n id datagram.items all.request c.requires.place opened sets stands.requests since g.sets.sets.items
+              (unasked_never g.agent.tables g.devices.list.items before g.requests.next rs new place device n id datagram.items all.request c.requires.place opened sets stands.requests (λ r. unasked g.limits g.asks.items c.args.now (slice_index_or rs place r).work (c.requires.due r))) stands.sets;
         };
         tried = let none_asked = known.unasked none in omega (arith, none_asked);
         stands = record {
-          requests = moved g.agent.tables g.agent.tables g.devices.list.items g.devices.list.items (asked n device id all.variables datagram.items ∷ before) g.requests.next c.set_asked.new.requests.next (groups_of new) (groups_of new)
+          requests = moved g.agent.tables g.agent.tables g.devices.list.items g.devices.list.items (asked n device id all.request datagram.items ∷ before) g.requests.next c.set_asked.new.requests.next (groups_of new) (groups_of new)
               refl refl c.set_asked.ensures.next refl all.stands;
-          asks = subst (AsksStand (asked n device id all.variables datagram.items ∷ before)) (sym now_in) asks;
-          sets = asked_sets g.agent.tables g.devices.list.items before g.requests.next rs new place device n id datagram.items all.variables c.requires.place opened sets stands.requests since c.args.now g.sets.sets.items later stands.sets;
+          asks = subst (AsksStand (asked n device id all.request datagram.items ∷ before)) (sym now_in) asks;
+          sets = asked_sets g.agent.tables g.devices.list.items before g.requests.next rs new place device n id datagram.items all.request c.requires.place opened sets stands.requests since c.args.now g.sets.sets.items later stands.sets;
         };
       },
     )
 
 pub returns-in_default-clause-happens : goal.returns-in_default-clause-happens
-returns-in_default-clause-happens c = c.answer_too_long.ensures.happens
+returns-in_default-clause-happens c =
+    on_ok c.answer_too_long.result _ _ (λ sent happens since before later stands. happens since c.args.ask_id before later stands) c.answer_too_long.ensures.happens
 
 pub returns-clause-stays : goal.returns-clause-stays
 returns-clause-stays c =
@@ -137,7 +141,7 @@ pub returns-in_err-datagram-clause-stays : goal.returns-in_err-datagram-clause-s
 returns-in_err-datagram-clause-stays c = stays_same c.args.self.now
 
 pub returns-then-device-len-clause-happens : goal.returns-then-device-len-clause-happens
-returns-then-device-len-clause-happens c since before later stands = c.give_up_at.ensures.happens since c.args.now before c.args.salt later stands
+returns-then-device-len-clause-happens c since before later stands = c.give_up_at.ensures.happens since c.args.now before (fresh c.args.salt c.args.ask_id) later stands
 
 pub returns-in_err-ask-clause-err : goal.returns-in_err-ask-clause-err
 returns-in_err-ask-clause-err c =

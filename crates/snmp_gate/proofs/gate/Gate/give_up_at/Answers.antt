@@ -11,7 +11,7 @@ use Rattle.snmp_gate.proofs.GivingUp.{gives_up}
 use Rattle.snmp_gate.proofs.gate.Gate.give_up_at.Goals as goal
 
 pub returns-clause-happens : goal.returns-clause-happens
-returns-clause-happens c since now before salt later stands =
+returns-clause-happens c since now before f later stands =
     let g = c.args.self.now in
     let new = c.end_ask.new.self in
     gives_up g new since now before c.args.place c.device_at-device.result.1 c.device_at-device.result.0 c.asked_at-asked.result c.work.result c.given_up_at-ending.result later c.requires.place c.device_at-device.ensures c.asked_at-asked.ensures c.given_up_at-ending.ensures

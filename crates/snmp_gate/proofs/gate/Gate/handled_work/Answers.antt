@@ -14,7 +14,7 @@ returns-then-pdu_of-tag-clause-begins c q asked =
     let client = c.args.message.now.client.items in
     let given = ap (question_given client) c.taken-taken.ensures ∙ asked in
     let context = ap (λ (x : Question). x.context) (asked_with client (given_of c.taken-taken.result) (contexts_of c.scoped.result) q c.scoped.ensures given).1 in
-    c.work_of-work.ensures.begins g.agent.tables g.devices.list.items q (λ told. c.in_ok-onward.ensures client q told given)
+    c.work_of-work.ensures.begins g.agent.tables g.devices.list.items q (λ told nothing. c.in_ok-onward.ensures client q told nothing given)
     (subst (λ (name : List ℕ). IsDeviceOf g.devices.list.items name c.in-Some.device) context c.in-Some.ensures.found)
 
 pub returns-in-Onward-clause-begins : goal.returns-in-Onward-clause-begins
@@ -25,5 +25,5 @@ returns-in-Onward-clause-begins c q asked =
     let context = ap (λ (x : Question). x.context) (asked_with client (given_of c.taken-taken.result) (contexts_of c.scoped.result) q c.scoped.ensures given).1 in
     let set = sym (c.pdu_of.ensures.asked client q given).tag ∙ c.if-pdu_of-tag.false ∙ c.tag.ensures.value in
     c.work_of.ensures.begins g.agent.tables g.devices.list.items q
-    (λ (told : Said). (rw c.in-Onward.is at c.in_ok-onward-2.ensures.begins q asked set) told)
+    (λ (told : Said) nothing. (rw c.in-Onward.is at c.in_ok-onward-2.ensures.begins q asked set) told nothing)
     (subst (λ (name : List ℕ). IsDeviceOf g.devices.list.items name c.in-Some.device) context c.in-Some.ensures.found)

@@ -1,0 +1,73 @@
+-- What a client sees through a gateway of a device that answers as RFC 3416 says.
+use Rattle.std.specs.Prelude.{◌≡◌, ◌<◌, ℕ, Bool, cond, List, [], ◌∷◌, length}
+use Rattle.std.proofs.Common.{ap, arith, inl, inr, subst, sym, ◌∙◌}
+use Rattle.std.proofs.lemmas.Bool.{false≢true}
+use Rattle.std.proofs.lemmas.Bool.Decides.{Decides-int_eq, eqb_tells}
+use Rattle.snmp_msg.specs.PduTypes.{pdu_tag}
+use Rattle.snmp_msg.specs.declared.pdu_type.PduType.TheVariants.{SetRequest}
+use Rattle.snmp_msg.specs.Variables.{Variable}
+use Rattle.vacm_core.specs.Tables.{Tables}
+use Rattle.snmp_incoming.specs.Outcome.{Given}
+use Rattle.snmp_responder.specs.Instrumentation.{Known}
+use Rattle.gateway_laws.specs.Device.{IsDevice}
+use Rattle.gateway_laws.specs.Requests.{RequestPdu}
+use Rattle.snmp_gate.specs.History.{Happening, accepted, answered, asked, asked_more, given_up, more_said, open_ask, sent, told_in, unanswered}
+use Rattle.snmp_gate.specs.Lawful.{WasAsked}
+use Rattle.snmp_gate.specs.Messages.{seen_in}
+use Rattle.snmp_gate.specs.Question.{Question}
+use Rattle.snmp_gate.specs.Replies.{Answering, IsAnswerTo, MayTellValues, columns, front, set}
+use Rattle.snmp_gate.specs.Said.{AreTrue, Said}
+use Rattle.snmp_gate.specs.Through.{ShowsDevice, TellsDevice, TellsSet, bulk, reads, sets}
+use Rattle.snmp_gate.specs.declared.set_answer.TheConstants.{NO_ERROR, TOO_BIG}
+use Rattle.snmp_gate.proofs.Others.{was_before, was_other}
+
+module _ (device : Known) (plain : IsDevice device) (tables : Tables) (q : Question) (said : Said) (truly : AreTrue device said) where
+  shows : (vs : List Variable) → MayTellValues tables q said vs → ShowsDevice device (seen_in tables q) q vs
+  shows vs (columns operation tag each whole) = reads operation tag (whole device plain truly)
+  shows vs (front tag each non_repeaters max_repetitions first most whole) = bulk tag non_repeaters max_repetitions first most (whole device plain truly)
+  shows vs (set tag own) = sets tag own
+
+  pub tells_device : (by : Answering) (g : Given) (datagram : List ℕ) → IsAnswerTo by tables q said g datagram → TellsDevice device (seen_in tables q) by q g datagram
+  tells_device by g datagram (inr report) = inl report
+  tells_device by g datagram (inl (told, out, (status, inl (none, may)))) = inr (told, out, λ is. shows told.variables may)
+  tells_device by g datagram (inl (told, out, (status, inr (inl (error, own))))) = inr (told, out, λ is. absurd (error is))
+  tells_device by g datagram (inl (told, out, (status, inr (inr (big, none))))) = inr (told, out, λ is. absurd (false≢true ((Decides-int_eq TOO_BIG NO_ERROR).1 (sym big ∙ is))))
+
+-- ---- a Set
+
+-- what a device was asked is known
+some_asked : (n : ℕ) (before : List Happening) → WasAsked before n → 0 < length (told_in n before).asked
+some_asked n [] was = absurd (let within = was.there.1 in omega (arith, within))
+some_asked n (accepted k at w m ∷ before) was = some_asked n before (was_before (accepted k at w m) before n (λ d id what v same. let wrong : accepted k at w m ≡ asked n d id what v = same in cc) was)
+some_asked n (asked k d id what w ∷ before) was =
+    let told = told_in n before in
+    elim (eqb_tells n k) [
+      | inl (test, same) ↦ subst (λ (b : Bool). 0 < length (cond b (asked_more what told) told).asked) (sym test) (omega arith)
+      | inr (test, other) ↦ subst (λ (b : Bool). 0 < length (cond b (asked_more what told) told).asked) (sym test) (some_asked n before (was_other (asked k d id what w) before n other was))
+    ]
+some_asked n (answered k d p w ∷ before) was =
+    let told = told_in n before in
+    let old = some_asked n before (was_before (answered k d p w) before n (λ e id what v same. let wrong : answered k d p w ≡ asked n e id what v = same in cc) was) in
+    elim (eqb_tells n k) [
+      | inl (test, same) ↦ subst (λ (b : Bool). 0 < length (cond b (more_said (open_ask n before) p told) told).asked) (sym test) old
+      | inr (test, other) ↦ subst (λ (b : Bool). 0 < length (cond b (more_said (open_ask n before) p told) told).asked) (sym test) old
+    ]
+some_asked n (sent k m by w ∷ before) was = some_asked n before (was_before (sent k m by w) before n (λ d id what v same. let wrong : sent k m by w ≡ asked n d id what v = same in cc) was)
+some_asked n (unanswered k m ∷ before) was = some_asked n before (was_before (unanswered k m) before n (λ d id what v same. let wrong : unanswered k m ≡ asked n d id what v = same in cc) was)
+some_asked n (given_up k d ∷ before) was = some_asked n before (was_before (given_up k d) before n (λ e id what v same. let wrong : given_up k d ≡ asked n e id what v = same in cc) was)
+
+tells_set : (tables : Tables) (q : Question) (said : Said) (by : Answering) (g : Given) (datagram : List ℕ) → q.tag ≡ pdu_tag SetRequest → 0 < length said.asked → IsAnswerTo by tables q said g datagram → TellsSet said by g datagram
+tells_set tables q said by g datagram set_is some (inr report) = inl report
+tells_set tables q said by g datagram set_is some (inl (told, out, (status, variables))) = inr (
+  told,
+  out,
+  elim (status set_is) [
+    | inl big ↦ inl big
+    | inr (inl none) ↦ absurd (omega (arith, some, ap (λ (rs : List RequestPdu). length rs) none))
+    | inr (inr says) ↦ inr says
+  ],
+)
+
+pub tells_of_set : (tables : Tables) (q : Question) (n : ℕ) (before : List Happening) → q.tag ≡ pdu_tag SetRequest → WasAsked before n → (by : Answering) (g : Given) (datagram : List ℕ)
+    → IsAnswerTo by tables q (told_in n before) g datagram → TellsSet (told_in n before) by g datagram
+tells_of_set tables q n before set_is was by g datagram answer = tells_set tables q (told_in n before) by g datagram set_is (some_asked n before was) answer
