@@ -49,7 +49,7 @@ $cc -shared "$@" $bound $library $names -o "$out/libsnmpsec.so.0"
 echo 'INPUT(-l:libsnmpsec.so.0)' > "$out/libsnmpsec.so"
 
 cc="$cc -I$here/src -I$here/examples"
-for test in calls manager_calls gate_calls bindings keys exchange many kept hostile; do
+for test in calls manager_calls gate_calls forward_calls bindings keys exchange many kept hostile; do
     checks="$here/tests/checks.c $out/words_of.o"
     $cc "$@" -Wl,--wrap=malloc,--wrap=realloc "$here/tests/$test.c" $checks $library -o "$out/$test"
 done

@@ -55,13 +55,30 @@ static bool take_names(struct rest list, struct pdu *pdu) {
     return true;
 }
 
-bool pdu_of(const uint8_t *datagram, size_t len, struct pdu *pdu) {
-    struct rest rest = {datagram, len}, message, community, inner, list;
+/* The PDU but for its bindings, and these. */
+static bool take_pdu(struct rest rest, struct pdu *pdu, struct rest *list) {
+    struct rest message, community, inner;
     uint32_t version;
     *pdu = (struct pdu){0};
     return take(&rest, SEQUENCE, &message) && take_number(&message, &version) && take(&message, OCTET_STRING, &community)
         && take_any(&message, &pdu->tag, &inner) && take_number(&inner, &pdu->request_id) && take_number(&inner, &pdu->status)
-        && take_number(&inner, &pdu->index) && take(&inner, SEQUENCE, &list) && take_names(list, pdu);
+        && take_number(&inner, &pdu->index) && take(&inner, SEQUENCE, list);
+}
+
+bool pdu_of(const uint8_t *datagram, size_t len, struct pdu *pdu) {
+    struct rest list;
+    return take_pdu((struct rest){datagram, len}, pdu, &list) && take_names(list, pdu);
+}
+
+bool trap_oid_of(const uint8_t *datagram, size_t len, const uint8_t **oid, size_t *oid_len) {
+    struct rest list, first, second, name, value;
+    struct pdu pdu;
+    if (!take_pdu((struct rest){datagram, len}, &pdu, &list) || !take(&list, SEQUENCE, &first) || !take(&list, SEQUENCE, &second)
+        || !take(&second, OBJECT_IDENTIFIER, &name) || !take(&second, OBJECT_IDENTIFIER, &value))
+        return false;
+    *oid = value.at;
+    *oid_len = value.len;
+    return true;
 }
 
 static const char *const statuses[STATUSES] = {

@@ -19,6 +19,9 @@ struct pdu {
 /* Reads the PDU of a datagram: whether it has one. */
 bool pdu_of(const uint8_t *datagram, size_t len, struct pdu *pdu);
 
+/* The value of snmpTrapOID.0, the second binding of an SNMPv2-Trap, in octets of the datagram: whether it has one (RFC 3416, section 4.2.6). */
+bool trap_oid_of(const uint8_t *datagram, size_t len, const uint8_t **oid, size_t *oid_len);
+
 /* The name of an error-status (RFC 3416, section 3), or NULL; they count from 0. */
 enum { STATUSES = 19 };
 const char *status_name(uint32_t status);

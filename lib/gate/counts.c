@@ -13,11 +13,16 @@ static const struct { int event; const char *name; } names[] = {
     {SNMPSEC_GATE_UNREADABLE, "unreadable"}, {SNMPSEC_GATE_TO_CLIENT, "to_client"}, {SNMPSEC_GATE_TO_DEVICE, "to_device"},
     {SNMPSEC_GATE_GIVEN_UP, "given_up"}, {SNMPSEC_GATE_UNANSWERED, "unanswered"}};
 
+static const struct { int event; const char *name; } trap_names[] = {
+    {SNMPSEC_FORWARD_UNREADABLE, "unreadable"}, {SNMPSEC_FORWARD_NOT_TRAP, "not_trap"}, {SNMPSEC_FORWARD_NO_TRAP_OID, "no_trap_oid"},
+    {SNMPSEC_FORWARD_OTHER_COMMUNITY, "other_community"}, {SNMPSEC_FORWARD_FOR_NOBODY, "for_nobody"}, {SNMPSEC_FORWARD_NO_ROOM, "no_room"},
+    {SNMPSEC_FORWARD_WAITS, "waits"}, {SNMPSEC_FORWARD_TO_RECEIVER, "to_receiver"}, {SNMPSEC_FORWARD_UNSENT, "unsent"}};
+
 static const struct { const char *name; size_t at; } of_device[] = {
     {"asked", offsetof(struct device_counts, asked)}, {"asked_again", offsetof(struct device_counts, asked_again)},
     {"answered", offsetof(struct device_counts, answered)}, {"given_up", offsetof(struct device_counts, given_up)},
     {"not_waited_for", offsetof(struct device_counts, not_waited_for)}, {"unreadable", offsetof(struct device_counts, unreadable)},
-    {"socket_errors", offsetof(struct device_counts, errors)}};
+    {"socket_errors", offsetof(struct device_counts, errors)}, {"notifies", offsetof(struct device_counts, notifies)}};
 
 static void write_name(FILE *to, const char *name, const char *kind) { fprintf(to, "# TYPE snmpsec_gate_%s %s\n", name, kind); }
 
@@ -69,6 +74,15 @@ static void write_statuses(FILE *to, const struct counts *counts) {
         fprintf(to, "snmpsec_gate_answers_total{error_status=\"%s\"} %" PRIu64 "\n", i < STATUSES ? status_name(i) : "other", counts->statuses[i]);
 }
 
+static void write_traps(FILE *to, const struct told *told) {
+    snmpsec_forward_info info;
+    write_name(to, "traps_total", "counter");
+    for (size_t i = 0; i < sizeof trap_names / sizeof *trap_names; i++)
+        fprintf(to, "snmpsec_gate_traps_total{event=\"%s\"} %" PRIu64 "\n", trap_names[i].name, told->counts->traps[trap_names[i].event]);
+    fprintf(to, "snmpsec_gate_traps_total{event=\"of_nobody\"} %" PRIu64 "\n", told->counts->traps_of_nobody);
+    if (!snmpsec_forward_numbers(told->forward, &info)) write_one(to, "notifications_waiting", "gauge", info.waiting);
+}
+
 static void write_all(FILE *to, const struct told *told) {
     const struct counts *counts = told->counts;
     snmpsec_gate_info info;
@@ -83,6 +97,7 @@ static void write_all(FILE *to, const struct told *told) {
     write_one(to, "unsent_total", "counter", counts->unsent);
     write_one(to, "unlogged_total", "counter", counts->unlogged);
     write_statuses(to, counts);
+    if (told->forward) write_traps(to, told);
     write_devices(to, told->devices, told->devices_len);
     if (!snmpsec_gate_numbers(told->gate, &info)) write_one(to, "waiting", "gauge", info.waiting);
     write_agent(to, told->gate);

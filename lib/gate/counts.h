@@ -3,11 +3,12 @@
 #define COUNTS_H
 
 #include "community.h"
+#include "sockets.h"
 #include <snmpsec.h>
 #include <stdint.h>
 
 /* of a device: what it was asked and what came from it */
-struct device_counts { uint64_t asked, asked_again, answered, given_up, not_waited_for, unreadable, errors; };
+struct device_counts { uint64_t asked, asked_again, answered, given_up, not_waited_for, unreadable, errors, notifies; };
 
 struct counts {
     /* by the event's number: what was taken from clients and devices, and what went out */
@@ -17,12 +18,15 @@ struct counts {
     /* answers of devices by their error-status; the last is of those that have no name */
     uint64_t statuses[STATUSES + 1];
     uint64_t reports, unsent, unlogged;
+    /* by the event's number: what was taken of devices' Traps, and what went to receivers; and datagrams that no device's address sent */
+    uint64_t traps[SNMPSEC_FORWARD_UNSENT + 1], traps_of_nobody;
 };
 
 /* A device of the configuration. */
 enum { CONTEXT_WORDS = 140 };
 struct device {
     int socket;
+    struct sockaddr_storage address;
     /* its contextName */
     char words[CONTEXT_WORDS];
     struct device_counts counts;
@@ -34,6 +38,8 @@ struct told {
     const struct device *devices;
     size_t devices_len;
     snmpsec_gate *gate;
+    /* or NULL: no Traps are taken */
+    snmpsec_forward *forward;
 };
 
 /* Writes the counts to a file, whole and replaced, or to standard error where the path is NULL: 0, or -1 and says why. */

@@ -35,27 +35,34 @@ char *setting_of(snmpsec_gate *gate, snmpsec_gate_text text, size_t position, si
     return copy;
 }
 
-/* Makes the machine of the file: 0, or the status to end with. */
-static int make_gate(const char *path, uint32_t boots, snmpsec_gate **gate) {
+/* Makes the machine of a text, and where it says where Traps are taken and who is sent them, the one for these; of the same text, so that their devices
+ * are the same. */
+static int make_of(const uint8_t *config, size_t len, uint32_t boots, snmpsec_gate **gate, snmpsec_forward **forward) {
+    uint64_t started = now_in_milliseconds() / 1000;
+    int answer = snmpsec_gate_new(config, len, boots, started, gate);
+    if (answer || !forward || !count_of(*gate, SNMPSEC_GATE_TRAPS) || !count_of(*gate, SNMPSEC_GATE_RECEIVER)) return answer;
+    return snmpsec_forward_new(config, len, boots, started, forward);
+}
+
+/* Makes the machines of the file: 0, or the status to end with. */
+static int make_gate(const char *path, uint32_t boots, snmpsec_gate **gate, snmpsec_forward **forward) {
     uint8_t *config;
     size_t len;
     if (file_read(path, MOST_CONFIG, &config, &len)) return 1;
-    int answer = snmpsec_gate_new(config, len, boots, now_in_milliseconds() / 1000, gate);
+    int answer = make_of(config, len, boots, gate, forward);
     if (answer == SNMPSEC_BAD_CONFIGURATION) gate_config_told("snmpsec-gate", path, config, len);
     else if (answer) fprintf(stderr, "snmpsec-gate: %s: %s\n", path, snmpsec_strerror(answer));
     file_free(config, len);
     return answer == SNMPSEC_BAD_CONFIGURATION ? 2 : answer ? 1 : 0;
 }
 
-/* How many devices there are. */
-static size_t count_of(snmpsec_gate *gate, snmpsec_gate_text text) {
+size_t count_of(snmpsec_gate *gate, snmpsec_gate_text text) {
     size_t n = 0, len = 0;
     for (int answer; (answer = snmpsec_gate_setting(gate, text, n, NULL, 0, &len)) == SNMPSEC_SHORT_BUFFER || !answer;) n++;
     return n;
 }
 
-/* A device's contextName in words; of the default context "". */
-static void context_words(snmpsec_gate *gate, size_t device, char *words) {
+void context_words(snmpsec_gate *gate, size_t device, char *words) {
     size_t len;
     char *context = setting_of(gate, SNMPSEC_GATE_CONTEXT, device, &len);
     if (context && len) shown((const uint8_t *)context, len, words, CONTEXT_WORDS);
@@ -72,16 +79,41 @@ static void say_note(snmpsec_gate *gate, size_t device) {
     free(note);
 }
 
+/* Says which devices have the address of an earlier one: then communities alone tell whose Trap it is. */
+static void say_one_host(snmpsec_gate *gate) {
+    static struct sockaddr_storage addresses[MOST_DEVICES];
+    char words[CONTEXT_WORDS], earlier[CONTEXT_WORDS];
+    size_t len;
+    socklen_t address_len;
+    for (size_t i = 0, n = count_of(gate, SNMPSEC_GATE_ADDRESS); i < n && i < MOST_DEVICES; i++) {
+        char *address = setting_of(gate, SNMPSEC_GATE_ADDRESS, i, &len);
+        bool is_read = address && !address_of(address, &addresses[i], &address_len);
+        size_t j = 0;
+        free(address);
+        if (!is_read) return;
+        while (j < i && !are_of_one_host(&addresses[j], &addresses[i])) j++;
+        if (j == i) continue;
+        context_words(gate, i, words);
+        context_words(gate, j, earlier);
+        fprintf(stderr, "snmpsec-gate: device %s: device %s has its address, so their Traps are told apart by their communities\n", words, earlier);
+    }
+}
+
 static void say_notes(snmpsec_gate *gate) {
+    bool takes = count_of(gate, SNMPSEC_GATE_TRAPS), sends = count_of(gate, SNMPSEC_GATE_RECEIVER);
     for (size_t i = 0, n = count_of(gate, SNMPSEC_GATE_ADDRESS); i < n; i++) say_note(gate, i);
+    if (sends && takes) say_one_host(gate);
+    if (sends && !takes) fprintf(stderr, "snmpsec-gate: receivers: no Traps are taken, since [gate] has no traps\n");
+    if (takes && !sends) fprintf(stderr, "snmpsec-gate: traps: no Traps are taken, since there is no receiver\n");
 }
 
 int gateway_check(const struct words *words) {
     snmpsec_gate *gate = NULL;
-    int status = make_gate(words->config, 0, &gate);
+    int status = make_gate(words->config, 0, &gate, NULL);
     if (status) return status;
     say_notes(gate);
     printf("%zu devices, %zu addresses\n", count_of(gate, SNMPSEC_GATE_ADDRESS), count_of(gate, SNMPSEC_GATE_LISTEN));
+    say_receivers(gate);
     snmpsec_gate_free(gate);
     return 0;
 }
@@ -91,6 +123,21 @@ static int watch(struct gateway *gateway, int file, enum source source, size_t n
     if (!epoll_ctl(gateway->poll, EPOLL_CTL_ADD, file, &event)) return 0;
     perror("snmpsec-gate: epoll");
     return 1;
+}
+
+/* Opens a socket at each address where Traps are taken, if anybody is sent them. */
+static int open_trap_listeners(struct gateway *gateway) {
+    size_t n = count_of(gateway->gate, SNMPSEC_GATE_RECEIVER) ? count_of(gateway->gate, SNMPSEC_GATE_TRAPS) : 0, len;
+    if (n > MOST_LISTENERS) { fprintf(stderr, "snmpsec-gate: more than %d addresses to take Traps at\n", MOST_LISTENERS); return 1; }
+    for (size_t i = 0; i < n; i++) {
+        char *address = setting_of(gateway->gate, SNMPSEC_GATE_TRAPS, i, &len);
+        int fault = !address || listen_at(address, &gateway->trap_listeners[i]);
+        free(address);
+        if (fault) return 1;
+        gateway->trap_listeners_len++;
+        if (watch(gateway, gateway->trap_listeners[i], FROM_TRAPS, i)) return 1;
+    }
+    return 0;
 }
 
 /* Opens a listening socket at each address of the command line, or else of the configuration. */
@@ -119,11 +166,12 @@ static void close_devices(struct device *devices, size_t *len) {
 /* Opens a socket connected to each device: 0, or 1 and none is open. */
 static int open_devices(snmpsec_gate *gate, struct device *devices, size_t *devices_len) {
     size_t n = count_of(gate, SNMPSEC_GATE_ADDRESS), len;
+    socklen_t address_len;
     *devices_len = 0;
     if (n > MOST_DEVICES) { fprintf(stderr, "snmpsec-gate: more than %d devices\n", MOST_DEVICES); return 1; }
     for (size_t i = 0; i < n; i++) {
         char *address = setting_of(gate, SNMPSEC_GATE_ADDRESS, i, &len);
-        int fault = !address || connect_to(address, &devices[i].socket);
+        int fault = !address || address_of(address, &devices[i].address, &address_len) || connect_to(address, &devices[i].socket);
         free(address);
         if (fault) { close_devices(devices, devices_len); return 1; }
         context_words(gate, i, devices[i].words);
@@ -165,7 +213,7 @@ static int begin_boots(struct gateway *gateway, const struct words *words) {
     if (!gateway->boots_path || boots_next(gateway->boots_path, false, &boots)) return 1;
     snmpsec_gate_free(gateway->gate);
     gateway->gate = NULL;
-    int status = make_gate(words->config, boots, &gateway->gate);
+    int status = make_gate(words->config, boots, &gateway->gate, &gateway->forward);
     if (status) return status;
     gateway->boots = boots;
     return boots_keep(gateway->boots_path, boots) ? 1 : 0;
@@ -173,12 +221,13 @@ static int begin_boots(struct gateway *gateway, const struct words *words) {
 
 int gateway_open(struct gateway *gateway, const struct words *words) {
     gateway->log = -1;
-    int status = make_gate(words->config, 0, &gateway->gate);
+    int status = make_gate(words->config, 0, &gateway->gate, NULL);
     if (status) return status;
     say_notes(gateway->gate);
     gateway->poll = epoll_create1(EPOLL_CLOEXEC);
     if (gateway->poll < 0) { perror("snmpsec-gate: epoll"); return 1; }
     if (open_listeners(gateway, words) || open_devices(gateway->gate, gateway->devices, &gateway->devices_len) || watch_devices(gateway)) return 1;
+    if (open_trap_listeners(gateway) || open_receivers(gateway->gate, gateway->receivers, &gateway->receivers_len)) return 1;
     if (words->user && become(words->user)) return 1;
     if (words->log && (gateway->log = open(words->log, O_WRONLY | O_APPEND | O_CREAT | O_CLOEXEC | O_NOCTTY, 0600)) < 0) {
         fprintf(stderr, "snmpsec-gate: %s: %s\n", words->log, strerror(errno));
@@ -207,12 +256,12 @@ static bool is_same_setting(snmpsec_gate *one, snmpsec_gate *other, snmpsec_gate
     return same;
 }
 
-/* Says that other addresses to listen at aren't taken now. */
-static void say_listeners(snmpsec_gate *old, snmpsec_gate *new) {
-    size_t n = count_of(new, SNMPSEC_GATE_LISTEN);
-    bool same = n == count_of(old, SNMPSEC_GATE_LISTEN);
-    for (size_t i = 0; same && i < n; i++) same = is_same_setting(old, new, SNMPSEC_GATE_LISTEN, i);
-    if (!same) fprintf(stderr, "snmpsec-gate: listen: other addresses are only taken at a start\n");
+/* Says that other addresses to listen at, or to take Traps at, aren't taken now. */
+static void say_listeners(snmpsec_gate *old, snmpsec_gate *new, snmpsec_gate_text text, const char *name) {
+    size_t n = count_of(new, text);
+    bool same = n == count_of(old, text);
+    for (size_t i = 0; same && i < n; i++) same = is_same_setting(old, new, text, i);
+    if (!same) fprintf(stderr, "snmpsec-gate: %s: other addresses are only taken at a start\n", name);
 }
 
 /* Puts the new machine and its sockets instead of the old ones. */
@@ -229,32 +278,50 @@ static void replace_gate(struct gateway *gateway, snmpsec_gate *gate, uint32_t b
     (void)watch_devices(gateway);
 }
 
+/* And the new one for Traps, with its receivers; what waited to be sent is gone. */
+static void replace_forward(struct gateway *gateway, snmpsec_forward *forward, const struct receiver *receivers, size_t len) {
+    close_receivers(gateway->receivers, &gateway->receivers_len);
+    memcpy(gateway->receivers, receivers, len * sizeof *receivers);
+    gateway->receivers_len = len;
+    snmpsec_forward_free(gateway->forward);
+    gateway->forward = forward;
+}
+
 void gateway_reload(struct gateway *gateway, const struct words *words) {
     static struct device devices[MOST_DEVICES];
+    static struct receiver receivers[MOST_RECEIVERS];
     snmpsec_gate *gate = NULL;
-    size_t len = 0;
+    snmpsec_forward *forward = NULL;
+    size_t len = 0, receivers_len = 0;
     uint32_t boots = gateway->boots < BOOTS_LATCHED ? gateway->boots + 1 : BOOTS_LATCHED;
-    if (!make_gate(words->config, boots, &gate) && has_boots_path(gateway, gate) && !open_devices(gate, devices, &len)
-        && !boots_keep(gateway->boots_path, boots)) {
-        if (!words->listens) say_listeners(gateway->gate, gate);
+    if (!make_gate(words->config, boots, &gate, &forward) && has_boots_path(gateway, gate) && !open_devices(gate, devices, &len)
+        && !open_receivers(gate, receivers, &receivers_len) && !boots_keep(gateway->boots_path, boots)) {
+        if (!words->listens) say_listeners(gateway->gate, gate, SNMPSEC_GATE_LISTEN, "listen");
+        say_listeners(gateway->gate, gate, SNMPSEC_GATE_TRAPS, "traps");
         replace_gate(gateway, gate, boots, devices, len);
+        replace_forward(gateway, forward, receivers, receivers_len);
         say_notes(gate);
         fprintf(stderr, "snmpsec-gate: %s is read anew\n", words->config);
         return;
     }
     close_devices(devices, &len);
+    close_receivers(receivers, &receivers_len);
     snmpsec_gate_free(gate);
+    snmpsec_forward_free(forward);
     fprintf(stderr, "snmpsec-gate: %s isn't taken, all stays as it was\n", words->config);
 }
 
 void gateway_counts(const struct gateway *gateway, const struct words *words) {
-    struct told told = {&gateway->counts, gateway->devices, gateway->devices_len, gateway->gate};
+    struct told told = {&gateway->counts, gateway->devices, gateway->devices_len, gateway->gate, gateway->forward};
     (void)counts_write(&told, words->counts);
 }
 
 void gateway_close(struct gateway *gateway) {
     snmpsec_gate_free(gateway->gate);
+    snmpsec_forward_free(gateway->forward);
     close_all(gateway->listeners, &gateway->listeners_len);
+    close_all(gateway->trap_listeners, &gateway->trap_listeners_len);
+    close_receivers(gateway->receivers, &gateway->receivers_len);
     close_devices(gateway->devices, &gateway->devices_len);
     if (gateway->log >= 0) close(gateway->log);
     free(gateway->boots_path);

@@ -3,6 +3,7 @@
 #define GATEWAY_H
 
 #include "counts.h"
+#include "traps.h"
 #include <snmpsec.h>
 #include <stdbool.h>
 #include <stddef.h>
@@ -28,6 +29,12 @@ struct gateway {
     size_t listeners_len;
     struct device devices[MOST_DEVICES];
     size_t devices_len;
+    /* or NULL: no Traps are taken */
+    snmpsec_forward *forward;
+    int trap_listeners[MOST_LISTENERS];
+    size_t trap_listeners_len;
+    struct receiver receivers[MOST_RECEIVERS];
+    size_t receivers_len;
     int poll;
     /* the file of --log-datagrams, or -1 */
     int log;
@@ -39,7 +46,7 @@ struct gateway {
 };
 
 /* What a socket of the poll is. */
-enum source { FROM_DEVICE, FROM_CLIENT, FROM_SIGNAL };
+enum source { FROM_DEVICE, FROM_CLIENT, FROM_TRAPS, FROM_SIGNAL };
 static inline uint64_t source_of(enum source source, size_t number) { return (uint64_t)source << 32 | number; }
 
 /* The boot clock, in milliseconds. */
@@ -55,6 +62,10 @@ void gateway_close(struct gateway *gateway);
 /* Writes the counts where the command line says. */
 void gateway_counts(const struct gateway *gateway, const struct words *words);
 
+/* How many of them the configuration says. */
+size_t count_of(snmpsec_gate *gate, snmpsec_gate_text text);
+/* A device's contextName in words, CONTEXT_WORDS at most; of the default context "". */
+void context_words(snmpsec_gate *gate, size_t device, char *words);
 /* A text that the configuration says, in a block that the caller frees; NULL: it says nothing there. */
 char *setting_of(snmpsec_gate *gate, snmpsec_gate_text text, size_t position, size_t *len);
 

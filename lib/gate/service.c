@@ -21,8 +21,8 @@ enum { MOST_READY = 64, MOST_AT_ONCE = 64, MOST_PATIENCE = 60000 };
 /* What came, and what goes out: both have communities. */
 static uint8_t datagram[65536], message[SNMPSEC_LARGEST];
 
-/* Eight random octets, of as many as the system gives whole at a time. */
-static uint64_t new_random(void) {
+/* Of as many as the system gives whole at a time. */
+uint64_t new_random(void) {
     static uint64_t pool[32];
     static size_t left;
     if (!left) {
@@ -32,8 +32,8 @@ static uint64_t new_random(void) {
     return pool[--left];
 }
 
-/* A number that didn't come lately: random above, and a count in the low 12 bits. */
-static uint32_t new_ask_id(void) {
+/* Random above, and a count in the low 12 bits. */
+uint32_t new_ask_id(void) {
     static uint32_t count;
     return ((uint32_t)new_random() & ~0xfffu) | (count++ & 0xfffu);
 }
@@ -205,10 +205,9 @@ static void send_client(struct gateway *gateway, size_t len) {
         gateway->counts.unsent++;
 }
 
-/* A send answers the error of a datagram of before, and then sends nothing: so it is tried twice. */
-static bool send_connected(int socket, size_t len) {
+bool send_connected(int socket, const uint8_t *octets, size_t len) {
     for (int i = 0; i < 2; i++)
-        if (send(socket, message, len, 0) == (ssize_t)len) return true;
+        if (send(socket, octets, len, 0) == (ssize_t)len) return true;
     return false;
 }
 
@@ -218,7 +217,7 @@ static void send_device(struct gateway *gateway, const snmpsec_gate_info *info, 
     struct device *device = &gateway->devices[info->device];
     bool is_again = pdu_of(message, len, &pdu) && waiting_asks(info->request, &pdu);
     *(is_again ? &device->counts.asked_again : &device->counts.asked) += 1;
-    if (!send_connected(device->socket, len)) gateway->counts.unsent++;
+    if (!send_connected(device->socket, message, len)) gateway->counts.unsent++;
 }
 
 static void take_given_up(struct gateway *gateway, uint64_t now, const snmpsec_gate_info *info) {
@@ -313,6 +312,7 @@ static bool take_ready(struct gateway *gateway, const struct words *words, const
             if (ready[i].data.u64 >> 32 != (uint64_t)source) continue;
             if (source == FROM_DEVICE) hear_device(gateway, number);
             else if (source == FROM_CLIENT) hear_clients(gateway, words, number);
+            else if (source == FROM_TRAPS) hear_traps(gateway, number);
             else if (hear_signal(gateway, words, signals)) return true;
         }
     return false;
@@ -351,6 +351,7 @@ static int serve_on(struct gateway *gateway, const struct words *words, int sign
         if (len < 0 && errno != EINTR) { perror("snmpsec-gate: epoll"); return 1; }
         ends = take_ready(gateway, words, ready, len, signals);
         send_due(gateway);
+        send_notifications(gateway);
         /* (what holds of a gateway that found no memory isn't promised) */
         if (gateway->out_of_memory) { fprintf(stderr, "snmpsec-gate: out of memory, it ends\n"); return 1; }
         lines_left_out(now_in_milliseconds());
@@ -362,5 +363,6 @@ int serve(struct gateway *gateway, const struct words *words) {
     int signals = begin_signals(gateway), status = signals < 0 ? 1 : serve_on(gateway, words, signals);
     snmpsec_wipe(datagram, sizeof datagram);
     snmpsec_wipe(message, sizeof message);
+    wipe_traps();
     return status;
 }

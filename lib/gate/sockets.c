@@ -49,6 +49,14 @@ void address_words(const struct sockaddr_storage *address, char *words) {
         snprintf(words, ADDRESS_WORDS, address->ss_family == AF_INET ? "%s:%s" : "[%s]:%s", host, port);
 }
 
+bool are_of_one_host(const struct sockaddr_storage *a, const struct sockaddr_storage *b) {
+    if (a->ss_family != b->ss_family) return false;
+    if (a->ss_family == AF_INET)
+        return ((const struct sockaddr_in *)a)->sin_addr.s_addr == ((const struct sockaddr_in *)b)->sin_addr.s_addr;
+    const struct sockaddr_in6 *one = (const struct sockaddr_in6 *)a, *other = (const struct sockaddr_in6 *)b;
+    return one->sin6_scope_id == other->sin6_scope_id && !memcmp(&one->sin6_addr, &other->sin6_addr, sizeof one->sin6_addr);
+}
+
 static int made_socket(const char *words, int *made, bool listens) {
     struct sockaddr_storage address;
     socklen_t len;

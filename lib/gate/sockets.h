@@ -26,6 +26,9 @@ int address_of(const char *words, struct sockaddr_storage *address, socklen_t *l
 /* The other way round; words has ADDRESS_WORDS octets. */
 void address_words(const struct sockaddr_storage *address, char *words);
 
+/* Whether two addresses are of one host, whatever the ports. */
+bool are_of_one_host(const struct sockaddr_storage *a, const struct sockaddr_storage *b);
+
 /* A socket that listens at the address, and one connected to it; neither blocks. Written to *made. */
 int listen_at(const char *words, int *made);
 int connect_to(const char *words, int *made);

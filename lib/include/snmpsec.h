@@ -11,8 +11,8 @@
  * Secrets: what the library frees is wiped first, and so is the stack that its calls used. The caller wipes the configuration that it handed in.
  * Keys lie in memory as long as their handle does.
  *
- * Stack: the calls that read a configuration and those on a gateway need 52 KB of it, the two that free another handle 24 KB, and any other 16 KB. So
- * a thread with 64 KB can make each of them.
+ * Stack: the calls that read a configuration and those on a gateway or a forwarder need 52 KB of it, the two that free another handle 24 KB, and any
+ * other 16 KB. So a thread with 64 KB can make each of them.
  *
  * Work: a datagram makes a call look at its own octets, and at a few rows. _take reads a datagram once, and hashes and opens it once if its user has
  * the keys; it finds the user by halving the table. _part and _message copy. _respond and _respond_front read the list, write, hash and seal it once.
@@ -430,7 +430,11 @@ typedef enum snmpsec_gate_text {
     /* the path of the boots' file; an address at which the gateway listens */
     SNMPSEC_GATE_BOOTS = 0, SNMPSEC_GATE_LISTEN = 1,
     /* of a device: its contextName, its address, and what about it is probably a mistake */
-    SNMPSEC_GATE_CONTEXT = 2, SNMPSEC_GATE_ADDRESS = 3, SNMPSEC_GATE_NOTE = 4
+    SNMPSEC_GATE_CONTEXT = 2, SNMPSEC_GATE_ADDRESS = 3, SNMPSEC_GATE_NOTE = 4,
+    /* an address at which Traps of devices are taken */
+    SNMPSEC_GATE_TRAPS = 5,
+    /* of a receiver of notifications: its address, its user, and the word for its level */
+    SNMPSEC_GATE_RECEIVER = 6, SNMPSEC_GATE_RECEIVER_USER = 7, SNMPSEC_GATE_RECEIVER_LEVEL = 8
 } snmpsec_gate_text;
 /* Copies it: SNMPSEC_NOTHING_TAKEN: nothing is said there; SNMPSEC_SHORT_BUFFER, and *written says how much is wanted; SNMPSEC_OUT_OF_MEMORY. */
 SNMPSEC_CHECK int snmpsec_gate_setting(snmpsec_gate *gate, snmpsec_gate_text text, size_t position, uint8_t *out, size_t out_len, size_t *written);
@@ -456,9 +460,50 @@ SNMPSEC_CHECK int snmpsec_gate_numbers(snmpsec_gate *gate, snmpsec_gate_info *ou
 /* The agent's counters. */
 SNMPSEC_CHECK int snmpsec_gate_counters(snmpsec_gate *gate, snmpsec_counters *out);
 SNMPSEC_CHECK int snmpsec_gate_counts(snmpsec_gate *gate, snmpsec_counts *out);
+/* Whether the receiver at this position may be notified of a variable of the device at this one (RFC 3413, section 3.3, step 4): SNMPSEC_OK: *out says
+ * what isAccessAllowed answers; SNMPSEC_BAD_ARGUMENT: not 1 to 128 arcs; SNMPSEC_NOTHING_TAKEN: no such receiver or device. */
+SNMPSEC_CHECK int snmpsec_gate_may_notify(snmpsec_gate *gate, size_t receiver, size_t device, const uint32_t *arcs, size_t arcs_len,
+                                          snmpsec_access *out);
 /* The msgUserName of a datagram, at most 32 octets, for a log. Nobody has shown that it is the sender's. SNMPSEC_NOT_MESSAGE, SNMPSEC_BAD_VERSION,
  * SNMPSEC_NOT_SECURITY: there is none; SNMPSEC_SHORT_BUFFER. */
 SNMPSEC_CHECK int snmpsec_datagram_user(const uint8_t *datagram, size_t datagram_len, uint8_t *out, size_t out_len, size_t *written);
+
+/* ---- a forwarder: Traps of devices that speak SNMPv2c, sent on to receivers that speak SNMPv3 (docs/gateway.md)
+ *
+ * It is made of the configuration of a gateway, and has its engine, boots, users, access and devices. The two share nothing: no salt may come twice
+ * at either. It is made in as much time as the gateway, since its users have keys of their own. */
+
+typedef struct snmpsec_forward snmpsec_forward;
+
+/* What becomes of a datagram, and what goes out. */
+typedef enum snmpsec_forward_event {
+    /* _next: there is nothing to do now */
+    SNMPSEC_FORWARD_NOTHING = 0,
+    /* _take_trap: it is no message of SNMPv2c; it has no SNMPv2-Trap; its second binding isn't snmpTrapOID.0 */
+    SNMPSEC_FORWARD_UNREADABLE = 20, SNMPSEC_FORWARD_NOT_TRAP = 21, SNMPSEC_FORWARD_NO_TRAP_OID = 22,
+    /* _take_trap: it hasn't the device's community; no receiver may be notified of it; as many wait as may; it waits to be sent */
+    SNMPSEC_FORWARD_OTHER_COMMUNITY = 23, SNMPSEC_FORWARD_FOR_NOBODY = 24, SNMPSEC_FORWARD_NO_ROOM = 25, SNMPSEC_FORWARD_WAITS = 26,
+    /* _next: _message goes to the receiver; a notification isn't sent to it */
+    SNMPSEC_FORWARD_TO_RECEIVER = 27, SNMPSEC_FORWARD_UNSENT = 30
+} snmpsec_forward_event;
+
+SNMPSEC_CALL void snmpsec_forward_free(snmpsec_forward *forward);
+/* Makes a forwarder of a gateway's configuration, as snmpsec_gate_new makes a gateway, and with the gateway's boots. */
+SNMPSEC_CHECK int snmpsec_forward_new(const uint8_t *config, size_t config_len, uint32_t boots, uint64_t started, snmpsec_forward **out);
+/* Takes a datagram from the device at this position: SNMPSEC_OK, SNMPSEC_OUT_OF_MEMORY. It rests on the caller that it came from this device: a
+ * community is no secret on the way. */
+SNMPSEC_CHECK int snmpsec_forward_take_trap(snmpsec_forward *forward, size_t device, const uint8_t *datagram, size_t datagram_len,
+                                            snmpsec_forward_event *event);
+/* Sends what waits longest to the next of its receivers: SNMPSEC_OK, SNMPSEC_OUT_OF_MEMORY. Each salt is another one, also after a restart, and each
+ * ask_id. *why is the refusal for which a notification isn't sent, or 0. */
+SNMPSEC_CHECK int snmpsec_forward_next(snmpsec_forward *forward, uint64_t now, uint64_t salt, uint32_t ask_id, snmpsec_forward_event *event, int *why);
+/* The moment from which on _next has something to do, 0: SNMPSEC_NOTHING_TAKEN: there is none. */
+SNMPSEC_CHECK int snmpsec_forward_due(snmpsec_forward *forward, uint64_t *at);
+/* The datagram that is to be sent: SNMPSEC_NOTHING_TAKEN, SNMPSEC_SHORT_BUFFER. */
+SNMPSEC_CHECK int snmpsec_forward_message(snmpsec_forward *forward, uint8_t *out, size_t out_len, size_t *written);
+/* The notification and the receiver that the last call was about, where it was about one, and how many notifications wait. */
+typedef struct snmpsec_forward_info { uint64_t notification, receiver, waiting; } snmpsec_forward_info;
+SNMPSEC_CHECK int snmpsec_forward_numbers(snmpsec_forward *forward, snmpsec_forward_info *out);
 
 /* ---- variable bindings, as octets */
 

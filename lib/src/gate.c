@@ -96,6 +96,15 @@ int snmpsec_gate_counts(snmpsec_gate *gate, snmpsec_counts *out) {
     return SNMPSEC_OK;
 }
 
+int snmpsec_gate_may_notify(snmpsec_gate *gate, size_t receiver, size_t device, const uint32_t *arcs, size_t arcs_len, snmpsec_access *out) {
+    static const uint32_t no_arcs[4];
+    if (!gate || !out) return SNMPSEC_BAD_ARGUMENT;
+    int answer = proved_gate_may_notify(gate, receiver, device, arcs_len ? arcs : no_arcs, arcs_len);
+    if (answer < 0) return answer;
+    *out = (snmpsec_access)answer;
+    return SNMPSEC_OK;
+}
+
 int snmpsec_datagram_user(const uint8_t *datagram, size_t datagram_len, uint8_t *out, size_t out_len, size_t *written) {
     return written ? proved_datagram_user(in(datagram, datagram_len), datagram_len, room(out, out_len), out_len, written) : SNMPSEC_BAD_ARGUMENT;
 }

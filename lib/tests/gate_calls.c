@@ -37,7 +37,7 @@ static void settings(void) {
     has(gate, "address", SNMPSEC_GATE_ADDRESS, 1, "10.1.0.8:161");
     has(gate, "note", SNMPSEC_GATE_NOTE, 0, "no access row fits its context");
     check("no third address", SNMPSEC_NOTHING_TAKEN, snmpsec_gate_setting(gate, SNMPSEC_GATE_LISTEN, 2, NULL, 0, &len));
-    check("no such setting", SNMPSEC_BAD_ARGUMENT, snmpsec_gate_setting(gate, (snmpsec_gate_text)5, 0, NULL, 0, &len));
+    check("no such setting", SNMPSEC_BAD_ARGUMENT, snmpsec_gate_setting(gate, (snmpsec_gate_text)9, 0, NULL, 0, &len));
     check("and nothing is written", 7, (long long)len);
     snmpsec_gate_free(gate);
 }

@@ -182,6 +182,39 @@ static int measure_gate(void) {
     return 0;
 }
 
+/* ---- a forwarder, which sends a device's Trap on */
+
+static const char forward_config[] = "[gate]\nengine = '80001f880478'\nboots = '/boots'\nlisten = ['127.0.0.1:161']\ntraps = ['127.0.0.1:162']\n"
+    "[[device]]\ncontext = ''\naddress = '127.0.0.1:162'\ncommunity = 'public'\n"
+    "[[user]]\nname = 'bob'\nauth = 'sha256'\nauth-password = 'maplesyrup'\npriv-password = 'syrupmaple'\n"
+    "[[group]]\nmodel = 3\nname = 'bob'\ngroup = 'all'\n"
+    "[[access]]\ngroup = 'all'\nprefix = ''\nmodel = 3\nlevel = 'noAuthNoPriv'\nmatch = 'exact'\nnotify = 'all'\n"
+    "[[family]]\nview = 'all'\nsubtree = '1.3'\ninclude = true\n"
+    "[[receiver]]\naddress = '127.0.0.1:163'\nuser = 'bob'\nlevel = 'authPriv'\n";
+static const uint8_t trap[] = "\x30\x40\x02\x01\x01\x04\x06public\xa7\x33\x02\x01\x07\x02\x01\x00\x02\x01\x00\x30\x28\x30\x0d\x06\x08\x2b\x06\x01\x02\x01\x01"
+    "\x03\x00\x43\x01\x05\x30\x17\x06\x0a\x2b\x06\x01\x06\x03\x01\x01\x04\x01\x00\x06\x09\x2b\x06\x01\x06\x03\x01\x01\x05\x01";
+static snmpsec_forward *forward;
+static snmpsec_forward_event told;
+static void forward_new(void) { answer = snmpsec_forward_new((const uint8_t *)forward_config, sizeof forward_config - 1, 5, NOW - 100, &forward); }
+static void forward_take_trap(void) { answer = snmpsec_forward_take_trap(forward, 0, trap, sizeof trap - 1, &told); }
+static void forward_next(void) {
+    int why;
+    id++;
+    answer = snmpsec_forward_next(forward, NOW * 1000, id, id, &told, &why);
+}
+static void forward_free(void) { snmpsec_forward_free(forward); answer = 0; }
+
+static int measure_forward(void) {
+    measure("forward_new", forward_new, SNMPSEC_DEEP_STACK);
+    if (answer) return 1;
+    measure("forward_take_trap", forward_take_trap, SNMPSEC_DEEP_STACK);
+    if (answer || told != SNMPSEC_FORWARD_WAITS) return 1;
+    measure("forward_next", forward_next, SNMPSEC_DEEP_STACK);
+    if (answer || told != SNMPSEC_FORWARD_TO_RECEIVER) return 1;
+    measure("forward_free", forward_free, SNMPSEC_DEEP_STACK);
+    return 0;
+}
+
 int main(int argc, char **argv) {
     FILE *file = argc == 2 ? fopen(argv[1], "rb") : NULL;
     stack = malloc(SIZE);
@@ -224,6 +257,7 @@ int main(int argc, char **argv) {
         list_len += more;
     }
     if (measure_gate()) { printf("FAILED the gateway's exchange stops at answer %d, event %d\n", answer, event); return 1; }
+    if (measure_forward()) { printf("FAILED the forwarder stops at answer %d, event %d\n", answer, told); return 1; }
     measure("password_key", password_key, SNMPSEC_STACK);
     measure("localise", localised, SNMPSEC_STACK);
     measure("mac", macced, SNMPSEC_STACK);

@@ -1,1 +1,4 @@
 mod Contexts
+mod Forwards
+mod Places
+mod Refused

@@ -1,6 +1,6 @@
--- The numbers of what becomes of what a gateway gets, and of what goes out.
+-- The numbers of what becomes of what a gateway and a forwarder get, and of what goes out.
 --
--- `event_number`: that of an event. `event_code`: that of an event or of a fault.
+-- `event_number`, `forward_number`: that of an event. `event_code`, `forward_code`: that of an event or of a fault.
 use Rattle.std.specs.Prelude.{◌+◌, ℤ, pos, Some, None, Result, Ok, Err}
 use Rattle.snmp_message.specs.Numbers.{refusal_number}
 use Rattle.snmp_handles.specs.Faults.{fault_code}
@@ -9,6 +9,9 @@ use Rattle.gate_handles.specs.declared.event.GateEvent.{GateEvent}
 use Rattle.gate_handles.specs.declared.event.GateEvent.TheVariants.{Nothing, Begins, Joins, NoRoom, SetOfBefore}
 use Rattle.gate_handles.specs.declared.event.GateEvent.TheVariants.{Answers, NotWaitedFor, Unreadable, ToClient}
 use Rattle.gate_handles.specs.declared.event.GateEvent.TheVariants.{ToDevice, GivenUp, Unanswered}
+use Rattle.gate_handles.specs.declared.forward_event.ForwardEvent.{ForwardEvent}
+use Rattle.gate_handles.specs.declared.forward_event.ForwardEvent.TheVariants as forward
+use Rattle.snmp_forward.specs.declared.notification.NotNotification.TheVariants as no_notification
 
 abbrev pub event_number : GateEvent → ℤ
 event_number Nothing = pos 0
@@ -28,3 +31,19 @@ event_number (Unanswered (Some refusal)) = pos (30 + refusal_number refusal)
 abbrev pub event_code : Result GateEvent CallFault → ℤ
 event_code (Ok event) = event_number event
 event_code (Err fault) = fault_code fault
+
+abbrev pub forward_number : ForwardEvent → ℤ
+forward_number forward.Nothing = pos 0
+forward_number (forward.NotNotification no_notification.Unreadable) = pos 20
+forward_number (forward.NotNotification no_notification.NotTrap) = pos 21
+forward_number (forward.NotNotification no_notification.NoTrapOid) = pos 22
+forward_number forward.OtherCommunity = pos 23
+forward_number forward.ForNobody = pos 24
+forward_number forward.NoRoom = pos 25
+forward_number forward.Waits = pos 26
+forward_number forward.ToReceiver = pos 27
+forward_number (forward.Unsent refusal) = pos (30 + refusal_number refusal)
+
+abbrev pub forward_code : Result ForwardEvent CallFault → ℤ
+forward_code (Ok event) = forward_number event
+forward_code (Err fault) = fault_code fault

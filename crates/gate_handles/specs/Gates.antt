@@ -31,6 +31,7 @@ use Rattle.snmpsec_gate_config.specs.Refusals.{Loads, RefusesText, SaysSound}
 use Rattle.snmpsec_gate_config.specs.declared.fault.GateFault.{GateFault}
 use Rattle.snmpsec_gate_config.specs.declared.settings.GateSettings.{GateSettings}
 use Rattle.snmpsec_gate_config.specs.declared.settings.DeviceSettings.{DeviceSettings}
+use Rattle.snmpsec_gate_config.specs.declared.settings.ReceiverSettings.{ReceiverSettings}
 use Rattle.snmp_handles.specs.Agents.{begins, no_rows}
 use Rattle.snmp_handles.specs.declared.fault.CallFault.{CallFault}
 use Rattle.snmp_handles.specs.declared.fault.CallFault.TheVariants.{Refused, BadArgument, BadConfiguration}
@@ -40,9 +41,10 @@ use Rattle.gate_handles.specs.declared.event.GateEvent.TheVariants as event
 
 pub record GateHeld : Type 0 where
   pub gate : Gate
-  -- what the configuration says of it, of its devices, and of access
+  -- what the configuration says of it, of its devices, of receivers, and of access
   pub settings : GateSettings
   pub devices : List DeviceSettings
+  pub receivers : List ReceiverSettings
   pub access : List AccessRow
   -- the request and the device that the last call was about, if it was about one
   pub request : ℕ
@@ -108,9 +110,10 @@ pub record IsQuiet (held : GateHeld) : Type 0 where
 pub record IsAccessOf (config : List ℕ) (access : List AccessRow) : Type 0 where
   pub settings : GateSettings
   pub devices : List DeviceSettings
+  pub receivers : List ReceiverSettings
   pub users : List UserRow
   pub rows : Tables
-  pub sound : SaysSound config settings devices users rows
+  pub sound : SaysSound config settings devices receivers users rows
   pub is : access ≡ rows.access
 
 -- a gateway to these devices, with the agent that begins so, that nothing has reached
@@ -125,7 +128,7 @@ pub record IsGateOf (config : List ℕ) (boots started : ℕ) (made : GateHeld) 
   pub in_range : boots ≤ pair_max
   pub users : List User
   pub tables : Tables
-  pub loads : Loads config made.settings made.devices users tables
+  pub loads : Loads config made.settings made.devices made.receivers users tables
   pub access : IsAccessOf config made.access
   pub gate : IsNewGate (begins made.settings.engine boots started users tables).agent made.devices made.gate
   pub quiet : IsQuiet made
@@ -151,6 +154,7 @@ MakesGate config boots started (Err fault) = RefusesGate config boots fault
 pub record KeepsSaid (old new : GateHeld) : Type 0 where
   pub settings : new.settings ≡ old.settings
   pub devices : new.devices ≡ old.devices
+  pub receivers : new.receivers ≡ old.receivers
   pub access : new.access ≡ old.access
 
 -- there is no memory, nothing is to be sent, and the gateway is as before, at this moment in milliseconds
@@ -236,13 +240,15 @@ abbrev pub IsEmptyAgent : AgentState → Type 0
 IsEmptyAgent agent = (tables : Tables) × HaveSameRows no_rows tables
     × (agent ≡ (begins (replicate 5 0) 0 0 [] tables).agent)
 
--- no device, no user, no row, no request and no datagram
+-- no device, no receiver, no user, no row, no request and no datagram
 pub record IsEmpty (new : GateHeld) : Type 0 where
   pub no_users : IsEmptyAgent new.gate.agent
   pub gate : IsNewGate new.gate.agent [] new.gate
   pub path : string_bytes new.settings.boots ≡ []
   pub listens : new.settings.listen.items ≡ []
+  pub takes_no_traps : new.settings.traps.items ≡ []
   pub no_devices : new.devices ≡ []
+  pub no_receivers : new.receivers ≡ []
   pub no_access : new.access ≡ []
   pub quiet : IsQuiet new
 

@@ -1,3 +1,4 @@
 pub mod Events
 pub mod Gates
 pub mod Told
+pub mod Forwards

@@ -1,9 +1,9 @@
 -- What a caller gets of a gateway: what its configuration says, its numbers and counters, why a configuration is
 -- refused, and the user of a datagram.
 --
--- `ReadsSetting`, `IsSetting`: a text that the configuration says. `numbers_of`: whom the last call was about.
--- `CountsOf`: a counter of the agent. `TellsGate`: why a text is refused as a configuration. `CopiesUser`: the user
--- that a datagram names.
+-- `ReadsSetting`, `IsSetting`: a text that the configuration says. `MayNotify`: whether a receiver may be notified of a
+-- variable. `numbers_of`: whom the last call was about. `CountsOf`: a counter of the agent. `TellsGate`: why a text is
+-- refused as a configuration. `CopiesUser`: the user that a datagram names.
 use Rattle.std.specs.Prelude.{◌≡◌, ◌<◌, ◌≤◌, ◌⊎◌, ⊤, ℕ, List, []}
 use Rattle.std.specs.Prelude.{◌∷◌, ◌++◌, length, drop, codes, string_bytes, slice_get, if◌then◌else◌, ◌==◌}
 use Rattle.std.specs.Prelude.{Option, Some, None, option_map, MatchOption, Result, Ok, Err}
@@ -23,9 +23,17 @@ use Rattle.snmpsec_gate_config.specs.declared.fault.GateFault.{GateFault}
 use Rattle.snmpsec_gate_config.specs.declared.oddity.DeviceOddity.{DeviceOddity}
 use Rattle.snmpsec_gate_config.specs.declared.settings.GateSettings.{GateSettings}
 use Rattle.snmpsec_gate_config.specs.declared.settings.DeviceSettings.{DeviceSettings}
+use Rattle.snmpsec_gate_config.specs.declared.settings.ReceiverSettings.{ReceiverSettings}
+use Rattle.snmpsec_config.specs.Words.{level_word}
+use Rattle.snmp_agent.specs.Decides.{question}
+use Rattle.snmp_handles.specs.Agents.{AreNoArcs}
+use Rattle.vacm_core.specs.Allowed.{Allowed}
+use Rattle.vacm_core.specs.declared.access.Access.{Access}
+use Rattle.vacm_core.specs.declared.access.ViewType.TheVariants.{Notify}
 use Rattle.snmp_handles.specs.Parts.{Copies, CopiesMessage, CopiesNothing}
 use Rattle.snmp_handles.specs.declared.fault.CallFault.{CallFault}
-use Rattle.snmp_handles.specs.declared.fault.CallFault.TheVariants.{Refused, BadArgument, BadConfiguration, ShortBuffer}
+use Rattle.snmp_handles.specs.declared.fault.CallFault.TheVariants.{Refused, BadArgument, BadConfiguration}
+use Rattle.snmp_handles.specs.declared.fault.CallFault.TheVariants.{NothingTaken, ShortBuffer}
 use Rattle.gate_handles.specs.Gates.{GateHeld}
 use Rattle.gate_handles.specs.declared.setting.GateText.{GateText}
 use Rattle.gate_handles.specs.declared.setting.GateText.TheVariants as setting
@@ -36,7 +44,9 @@ abbrev pub setting_of : ℕ → Option GateText
 setting_of n =
     if n == 0 then Some setting.Boots else if n == 1 then Some setting.Listen else if n == 2 then Some setting.Context
     else if n == 3 then Some setting.Address else
-    if n == 4 then Some setting.Note else None
+    if n == 4 then Some setting.Note else if n == 5 then Some setting.Traps else
+    if n == 6 then Some setting.ReceiverAddress else if n == 7 then Some setting.ReceiverUser else
+    if n == 8 then Some setting.ReceiverLevel else None
 
 -- what is probably a mistake about the device at this position, in words
 abbrev pub IsNote : List DeviceSettings → List AccessRow → ℕ → Option (List ℕ) → Type 0
@@ -45,22 +55,44 @@ IsNote devices access position text = MatchOption (slice_get devices position) (
     × (text ≡ option_map oddity_words oddity))
 
 -- the text that is said so, at this position, if one is
-abbrev pub IsSetting : GateSettings → List DeviceSettings → List AccessRow → GateText → ℕ → Option (List ℕ) → Type 0
-IsSetting said devices access setting.Boots position text = text ≡ Some (string_bytes said.boots)
-IsSetting said devices access setting.Listen position text =
+abbrev pub IsSetting : GateSettings → List DeviceSettings → List ReceiverSettings → List AccessRow → GateText → ℕ
+    → Option (List ℕ) → Type 0
+IsSetting said devices receivers access setting.Boots position text = text ≡ Some (string_bytes said.boots)
+IsSetting said devices receivers access setting.Listen position text =
     text ≡ option_map socket_text (slice_get said.listen.items position)
-IsSetting said devices access setting.Context position text =
+IsSetting said devices receivers access setting.Context position text =
     text ≡ option_map (λ device. device.context) (slice_get devices position)
-IsSetting said devices access setting.Address position text =
+IsSetting said devices receivers access setting.Address position text =
     text ≡ option_map (λ device. socket_text device.address) (slice_get devices position)
-IsSetting said devices access setting.Note position text = IsNote devices access position text
+IsSetting said devices receivers access setting.Note position text = IsNote devices access position text
+IsSetting said devices receivers access setting.Traps position text =
+    text ≡ option_map socket_text (slice_get said.traps.items position)
+IsSetting said devices receivers access setting.ReceiverAddress position text =
+    text ≡ option_map (λ receiver. socket_text receiver.address) (slice_get receivers position)
+IsSetting said devices receivers access setting.ReceiverUser position text =
+    text ≡ option_map (λ receiver. receiver.user) (slice_get receivers position)
+IsSetting said devices receivers access setting.ReceiverLevel position text =
+    text ≡ option_map (λ receiver. level_word receiver.level) (slice_get receivers position)
 
 -- It is copied; or there is no memory for it.
 abbrev pub ReadsSetting : GateHeld → GateText → ℕ → List ℕ → List ℕ → ℕ → ℕ → Result ⊤ CallFault → Type 0
 ReadsSetting held which position out out_new written written_new told =
-    ((text : Option (List ℕ)) × IsSetting held.settings held.devices held.access which position text
+    ((text : Option (List ℕ)) × IsSetting held.settings held.devices held.receivers held.access which
+    position text
     × CopiesMessage text out out_new written written_new told)
     ⊎ ((told ≡ Err (Refused OutOfMemory)) × CopiesNothing out out_new written written_new)
+
+-- ---- who may be notified
+
+-- whether the receiver may be notified of the variable with these arcs of the device (RFC 3413, section 3.3, step 4)
+abbrev pub MayNotify : GateHeld → ℕ → ℕ → List ℕ → Result Access CallFault → Type 0
+MayNotify held receiver device arcs (Ok access) = (to : ReceiverSettings) × (from : DeviceSettings)
+    × (slice_get held.receivers receiver ≡ Some to) × (slice_get held.devices device ≡ Some from)
+    × Allowed held.gate.agent.tables (question to.user to.level from.context) Notify arcs access
+MayNotify held receiver device arcs (Err NothingTaken) = (slice_get held.receivers receiver ≡ None)
+    ⊎ (slice_get held.devices device ≡ None)
+MayNotify held receiver device arcs (Err BadArgument) = AreNoArcs arcs
+MayNotify held receiver device arcs (Err _) = ⊥
 
 -- ---- numbers
 
@@ -89,9 +121,10 @@ RefusesSo config text = (fault : GateFault) × RefusesText config fault × IsTol
 pub record IsGateConfig (config : List ℕ) : Type 0 where
   pub settings : GateSettings
   pub devices : List DeviceSettings
+  pub receivers : List ReceiverSettings
   pub users : List UserRow
   pub rows : Tables
-  pub sound : SaysSound config settings devices users rows
+  pub sound : SaysSound config settings devices receivers users rows
 
 abbrev pub TellsGate : List ℕ → List ℕ → List ℕ → ℕ → ℕ → Result ⊤ CallFault → Type 0
 TellsGate config out out_new written written_new (Ok done) = IsGateConfig config × (out_new ≡ out) × (written_new ≡ 0)

@@ -11,25 +11,25 @@ ghost use Rattle.snmp_handles.specs.declared.fault.CallFault.TheVariants.{Refuse
 ghost use Rattle.gate_handles.specs.Gates.{MakesGate, RefusesConfig, IsAccessOf, IsNewGate, IsEmptyAgent, Empties};
 ghost use Rattle.gate_handles.specs.Gates.{KeepsSaid, IsQuiet, TakesClient, TellsClient, TakesDevice, SendsNext};
 ghost use Rattle.gate_handles.specs.Gates.{TellsDevice, TellsSent};
-ghost use Rattle.gate_handles.specs.Told.{CountsOf, ReadsSetting, numbers_of};
+ghost use Rattle.gate_handles.specs.Told.{CountsOf, MayNotify, ReadsSetting, numbers_of};
 
 use crate::event::GateEvent;
 use crate::making::{devices_of, limits_of};
 use crate::setting::{GateText, setting_text};
 use engine_clock::EngineId;
 use snmp_agent::Agent;
-use snmp_ber::MAX_INTEGER32;
+use snmp_ber::{MAX_INTEGER32, Oid};
 use snmp_gate::{ClientTaken, DeviceTaken, Devices, Gate, Sent};
 use snmp_handles::{CallFault, copied_message};
 use snmp_msg::Refusal;
 use snmp_outgoing::Counter;
 use snmpsec_gate_config::{
-    DeviceSettings, GateConfig, GateFault, GateRows, GateSettings, GatewayLimits,
+    DeviceSettings, GateConfig, GateFault, GateRows, GateSettings, GatewayLimits, ReceiverSettings,
 };
 use std::alloc::{AllocError, Global};
 use std::marker::Model;
 use usm_core::{UserRow, Users};
-use vacm_core::{AccessRow, Rows, Vacm};
+use vacm_core::{Access, AccessRow, Rows, Vacm, ViewType};
 
 /// A gateway, what its configuration says, and what came of the last call.
 #[derive(Drop)]
@@ -38,6 +38,7 @@ pub struct GateHandle {
     pub(crate) gate: Gate,
     pub(crate) settings: GateSettings,
     pub(crate) devices: Vec<DeviceSettings>,
+    pub(crate) receivers: Vec<ReceiverSettings>,
     pub(crate) access: Vec<AccessRow>,
     pub(crate) request: u64,
     pub(crate) device: usize,
@@ -59,6 +60,7 @@ impl Model for GateHandle {
       gate = h.gate;
       settings = h.settings;
       devices = h.devices.items;
+      receivers = h.receivers.items;
       access = h.access.items;
       request = h.request;
       device = h.device;
@@ -68,7 +70,7 @@ impl Model for GateHandle {
 }
 
 /// The fault of a call that found no memory.
-const NO_MEMORY: CallFault = CallFault::Refused(Refusal::OutOfMemory);
+pub(crate) const NO_MEMORY: CallFault = CallFault::Refused(Refusal::OutOfMemory);
 
 /// Returns the fault of a call that was given a text that is refused so.
 fn fault_of(fault: &GateFault) -> CallFault
@@ -97,9 +99,9 @@ fn access_of(alloc: Global, config: &[u8]) -> Result<Vec<AccessRow>, CallFault>
 }
 
 /// Returns what a configuration says.
-fn config_of(alloc: Global, config: &[u8]) -> Result<GateConfig, CallFault>
+pub(crate) fn config_of(alloc: Global, config: &[u8]) -> Result<GateConfig, CallFault>
     ensures loads { IfOk result (λ said. Loads config.now said.gate said.devices.items
-        said.users.users said.access) }
+        said.receivers.items said.users.users said.access) }
     ensures own_contexts { IfOk result (λ said. HaveOwnContexts said.devices.items) }
     ensures refuses { IfErr result (RefusesConfig config.now) }
 {
@@ -127,7 +129,7 @@ fn gate_of(
 }
 
 /// Returns an agent without users and rows.
-fn empty_agent(alloc: Global) -> Result<Agent, CallFault>
+pub(crate) fn empty_agent(alloc: Global) -> Result<Agent, CallFault>
     ensures agent { IfOk result IsEmptyAgent }
     ensures no_memory { IfErr result (λ fault. fault ≡ Refused OutOfMemory) }
 {
@@ -154,11 +156,13 @@ fn empty_agent(alloc: Global) -> Result<Agent, CallFault>
 fn empty_settings(alloc: Global, engine: EngineId) -> GateSettings
     ensures path { string_bytes result.boots ≡ [] }
     ensures listen { result.listen.items ≡ [] }
+    ensures traps { result.traps.items ≡ [] }
 {
     GateSettings {
         engine,
         boots: String::new(alloc),
         listen: Vec::new(alloc),
+        traps: Vec::new(alloc),
         limits: GatewayLimits {
             waiting: 1,
             rounds: 1,
@@ -193,6 +197,7 @@ impl GateHandle {
         let GateConfig {
             gate: settings,
             devices,
+            receivers,
             users,
             access: tables,
         } = said;
@@ -205,6 +210,7 @@ impl GateHandle {
             gate,
             settings,
             devices,
+            receivers,
             access,
             request: 0,
             device: 0,
@@ -213,8 +219,8 @@ impl GateHandle {
         })
     }
 
-    /// Gives back the memory of all that is held: users, tables, devices, and what waits. The error is out of memory,
-    /// and changes nothing.
+    /// Gives back the memory of all that is held: users, tables, devices, receivers, and what waits. The error is out
+    /// of memory, and changes nothing.
     pub fn clear(&mut self) -> Result<(), CallFault>
         ensures { Empties self.old result self.new }
     {
@@ -227,6 +233,7 @@ impl GateHandle {
         self.gate = gate;
         self.settings = settings;
         self.devices = devices;
+        self.receivers = Vec::new(self.alloc);
         self.access = Vec::new(self.alloc);
         self.message = None;
         self.client = None;
@@ -406,6 +413,7 @@ impl GateHandle {
             self.alloc,
             &self.settings,
             &self.devices,
+            &self.receivers,
             &self.access,
             setting,
             position,
@@ -414,6 +422,34 @@ impl GateHandle {
             Ok(text) => copied_message(&text, out, written),
             Err(_) => Err(NO_MEMORY),
         }
+    }
+
+    /// Returns whether the receiver of this number may be notified of the variable with these arcs of the device of
+    /// this number (RFC 3413, section 3.3, step 4). Numbers count from 0. The errors are NothingTaken, if there is no
+    /// such receiver or device, and BadArgument, if there aren't 1 to 128 arcs.
+    pub fn may_notify(
+        &self,
+        receiver: usize,
+        device: usize,
+        arcs: &[u32],
+    ) -> Result<Access, CallFault>
+        ensures { MayNotify self.now receiver device arcs.now result }
+    {
+        let Some(variable) = Oid::of(arcs) else {
+            return Err(CallFault::BadArgument);
+        };
+        let Some(to) = self.receivers.get(receiver) else {
+            return Err(CallFault::NothingTaken);
+        };
+        let Some(from) = self.devices.get(device) else {
+            return Err(CallFault::NothingTaken);
+        };
+        let (user, context) = (to.user.as_slice(), from.context.as_slice());
+        Ok(
+            self.gate
+                .agent()
+                .may(user, to.level, context, ViewType::Notify, &variable),
+        )
     }
 
     /// Returns the number of the request that the last call was about, that of the device, and how many requests

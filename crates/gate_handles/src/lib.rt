@@ -20,12 +20,16 @@
 #![tactic(auto)]
 
 mod event;
+mod forward;
+mod forward_event;
 mod handle;
 mod making;
 mod setting;
 mod told;
 
 pub use event::{GateEvent, event_code_of};
+pub use forward::ForwardHandle;
+pub use forward_event::{ForwardEvent, forward_code_of};
 pub use handle::GateHandle;
 pub use making::{GATHERED, JOINED, NAMES};
 pub use setting::GateText;

@@ -3,9 +3,11 @@
 ghost use Rattle.std.specs.Prelude.{◌≡◌, IfOk, Some, option_map, slice_get};
 ghost use Rattle.std.specs.Net.Text.{socket_text};
 ghost use Rattle.snmpsec_gate_config.specs.Oddities.{oddity_words};
+ghost use Rattle.snmpsec_config.specs.Words.{level_word};
 ghost use Rattle.gate_handles.specs.Told.{IsNote, IsSetting, setting_of};
 
-use snmpsec_gate_config::{DeviceOddity, DeviceSettings, GateSettings};
+use snmpsec_config::level_word;
+use snmpsec_gate_config::{DeviceOddity, DeviceSettings, GateSettings, ReceiverSettings};
 use std::alloc::{AllocError, Global};
 use std::net::SocketAddr;
 use vacm_core::AccessRow;
@@ -23,10 +25,19 @@ pub enum GateText {
     Address,
     /// What about a device is probably a mistake.
     Note,
+    /// An address at which it takes Traps.
+    Traps,
+    /// Where a receiver takes notifications.
+    ReceiverAddress,
+    /// The name of a receiver's user.
+    ReceiverUser,
+    /// The level at which a receiver's notifications are sealed.
+    ReceiverLevel,
 }
 
 impl GateText {
-    /// Returns the setting of this number: 0 boots, 1 listen, 2 context, 3 address, 4 note.
+    /// Returns the setting of this number: 0 boots, 1 listen, 2 context, 3 address, 4 note, 5 traps, 6 the
+    /// address of a receiver, 7 its user, 8 its level.
     pub fn of(number: u32) -> Option<GateText>
         ensures { result ≡ setting_of number }
     {
@@ -36,6 +47,10 @@ impl GateText {
             2 => Some(GateText::Context),
             3 => Some(GateText::Address),
             4 => Some(GateText::Note),
+            5 => Some(GateText::Traps),
+            6 => Some(GateText::ReceiverAddress),
+            7 => Some(GateText::ReceiverUser),
+            8 => Some(GateText::ReceiverLevel),
             _ => None,
         }
     }
@@ -77,7 +92,7 @@ fn note_text(
 }
 
 /// Returns the address at this position.
-fn listen_text(
+fn one_address_text(
     alloc: Global,
     addresses: &[SocketAddr],
     position: usize,
@@ -124,16 +139,65 @@ fn device_text(
     Ok(Some(text))
 }
 
+/// Returns the address of the receiver at this position.
+fn receiver_text(
+    alloc: Global,
+    receivers: &[ReceiverSettings],
+    position: usize,
+) -> Result<Option<Vec<u8>>, AllocError>
+    ensures { IfOk result (λ text. option_map (λ v. v.items) text
+        ≡ option_map (λ receiver. socket_text receiver.address) (slice_get receivers.now position)) }
+{
+    let Some(receiver) = receivers.get(position) else {
+        return Ok(None);
+    };
+    let text = address_text(alloc, &receiver.address)?;
+    Ok(Some(text))
+}
+
+/// Returns the name of the user of the receiver at this position.
+fn user_text(
+    alloc: Global,
+    receivers: &[ReceiverSettings],
+    position: usize,
+) -> Result<Option<Vec<u8>>, AllocError>
+    ensures { IfOk result (λ text. option_map (λ v. v.items) text
+        ≡ option_map (λ receiver. receiver.user) (slice_get receivers.now position)) }
+{
+    let Some(receiver) = receivers.get(position) else {
+        return Ok(None);
+    };
+    let text = Vec::from_slice(alloc, receiver.user.as_slice())?;
+    Ok(Some(text))
+}
+
+/// Returns the word for the level of the receiver at this position.
+fn level_text(
+    alloc: Global,
+    receivers: &[ReceiverSettings],
+    position: usize,
+) -> Result<Option<Vec<u8>>, AllocError>
+    ensures { IfOk result (λ text. option_map (λ v. v.items) text
+        ≡ option_map (λ receiver. level_word receiver.level) (slice_get receivers.now position)) }
+{
+    let Some(receiver) = receivers.get(position) else {
+        return Ok(None);
+    };
+    let text = Vec::from_slice(alloc, level_word(receiver.level).as_bytes())?;
+    Ok(Some(text))
+}
+
 /// Returns what the configuration says at this position. None: it says nothing there.
 pub(crate) fn setting_text(
     alloc: Global,
     said: &GateSettings,
     devices: &[DeviceSettings],
+    receivers: &[ReceiverSettings],
     access: &[AccessRow],
     setting: GateText,
     position: usize,
 ) -> Result<Option<Vec<u8>>, AllocError>
-    ensures { IfOk result (λ text. IsSetting said.now devices.now access.now setting position
+    ensures { IfOk result (λ text. IsSetting said.now devices.now receivers.now access.now setting position
         (option_map (λ v. v.items) text)) }
 {
     match setting {
@@ -141,9 +205,13 @@ pub(crate) fn setting_text(
             let text = Vec::from_slice(alloc, said.boots.as_bytes())?;
             Ok(Some(text))
         }
-        GateText::Listen => listen_text(alloc, &said.listen, position),
+        GateText::Listen => one_address_text(alloc, &said.listen, position),
         GateText::Context => context_text(alloc, devices, position),
         GateText::Address => device_text(alloc, devices, position),
         GateText::Note => note_text(alloc, devices, access, position),
+        GateText::Traps => one_address_text(alloc, &said.traps, position),
+        GateText::ReceiverAddress => receiver_text(alloc, receivers, position),
+        GateText::ReceiverUser => user_text(alloc, receivers, position),
+        GateText::ReceiverLevel => level_text(alloc, receivers, position),
     }
 }

@@ -2,19 +2,21 @@
 --
 -- `MakesGateway`: the answer of `_new`. `TakesFromClient`, `TakesFromDevice`, `SendsDue`: the answer is the number of
 -- what becomes of a datagram and of what goes out (`Eventful`). `TellsDue`, `TellsDatagram`, `TellsClientOf`,
--- `TellsSetting`, `TellsNumbersOf`, `GateCounter`, `GateCount`, `ClearsGate`: what each export answers and leaves.
--- `TellsGateConfiguration`, `TellsUser`: those without a handle.
+-- `TellsSetting`, `TellsMayNotify`, `TellsNumbersOf`, `GateCounter`, `GateCount`, `ClearsGate`: what each export
+-- answers and leaves. `TellsGateConfiguration`, `TellsUser`: those without a handle.
 use Rattle.std.specs.Prelude.{◌≡◌, ◌≤◌, ◌<◌, ◌⊎◌, ℕ, ℤ, pos, List, ◌++◌, length, drop, MatchOption, Result}
 use Rattle.std.specs.Int.{to_be_bytes, w64}
 use Rattle.snmp_agent.specs.Counts.{count_at}
-use Rattle.snmp_handles.specs.Faults.{code, value_code, fault_code}
+use Rattle.snmp_handles.specs.Faults.{code, access_code, value_code, fault_code}
 use Rattle.snmp_handles.specs.Numbers.{counter_of}
 use Rattle.snmp_handles.specs.Parts.{CopiesMessage, CopiesNothing}
 use Rattle.snmp_handles.specs.declared.fault.CallFault.{CallFault}
 use Rattle.snmp_handles.specs.declared.fault.CallFault.TheVariants.{BadArgument, NothingTaken, ShortBuffer}
 use Rattle.gate_handles.specs.Events.{event_code}
 use Rattle.gate_handles.specs.Gates.{GateHeld, MakesGate, TakesClient, TakesDevice, SendsNext, Empties}
-use Rattle.gate_handles.specs.Told.{setting_of, ReadsSetting, CountsOf, TellsGate, CopiesUser, numbers_of}
+use Rattle.gate_handles.specs.Told.{setting_of, ReadsSetting, MayNotify, CountsOf, TellsGate, CopiesUser}
+use Rattle.gate_handles.specs.Told.{numbers_of}
+use Rattle.vacm_core.specs.declared.access.Access.{Access}
 use Rattle.gate_handles.specs.declared.event.GateEvent.{GateEvent}
 use Rattle.snmp_c.specs.Calls.{Done}
 
@@ -59,6 +61,10 @@ TellsSetting which position out out_new written written_new old new answer = (ne
     × MatchOption (setting_of which)
     ((answer ≡ fault_code BadArgument) × CopiesNothing out out_new written written_new)
     (λ setting. Done (λ told. ReadsSetting old setting position out out_new written written_new told) answer)
+
+abbrev pub TellsMayNotify : ℕ → ℕ → List ℕ → GateHeld → GateHeld → ℤ → Type 0
+TellsMayNotify receiver device arcs old new answer = (new ≡ old)
+    × ((told : Result Access CallFault) × (answer ≡ access_code told) × MayNotify old receiver device arcs told)
 
 -- three numbers are in the front of the buffer, or it is too short
 abbrev pub TellsNumbersOf : List ℕ → List ℕ → GateHeld → GateHeld → ℤ → Type 0

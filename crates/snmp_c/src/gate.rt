@@ -7,10 +7,11 @@ ghost use Rattle.gate_handles.specs.contracts.handle.GateHandle as gates;
 ghost use Rattle.gate_handles.specs.Gates.{GateHeld};
 ghost use Rattle.snmp_c.specs.GateCalls.{MakesGateway, ClearsGate, TakesFromClient, TakesFromDevice, SendsDue};
 ghost use Rattle.snmp_c.specs.GateCalls.{TellsDue, TellsDatagram, TellsClientOf, TellsSetting, TellsNumbersOf};
-ghost use Rattle.snmp_c.specs.GateCalls.{GateCounter, GateCount, TellsGateConfiguration, TellsUser};
+ghost use Rattle.snmp_c.specs.GateCalls.{GateCounter, GateCount, TellsGateConfiguration, TellsMayNotify, TellsUser};
 
 use crate::gate_calls::{
-    clear, client, count, counter, due, message, next, numbers, setting, take_client, take_device,
+    clear, client, count, counter, due, may_notify, message, next, numbers, setting, take_client,
+    take_device,
 };
 use gate_handles::{GateHandle, copied_user, tell_gate_config};
 use snmp_handles::{CallFault, code_of};
@@ -183,8 +184,9 @@ pub unsafe extern "C" fn proved_gate_client(at: *mut u8, out: &mut [u8], written
 
 /// Copies what the configuration says, in the same way: 0 the path of the boots file; 1 the address at which it
 /// listens at this position, counted from 0; 2 the contextName of the device at this position, 3 its address, and 4
-/// what about it is probably a mistake. It answers -1 where nothing has the number, -2 where nothing is said at the
-/// position, and 14 if memory runs out.
+/// what about it is probably a mistake; 5 the address at which it takes Traps; 6 the address of the receiver at this
+/// position, 7 the name of its user, and 8 the word for its level. It answers -1 where nothing has the number, -2
+/// where nothing is said at the position, and 14 if memory runs out.
 #[unsafe(no_mangle)]
 pub unsafe extern "C" fn proved_gate_setting(
     at: *mut u8,
@@ -200,6 +202,24 @@ pub unsafe extern "C" fn proved_gate_setting(
         written.new held new result ⌝) }
 {
     setting(&mut *(at as *mut GateHandle), which, position, out, written)
+}
+
+/// Whether the receiver of this number may be notified of the variable with these arcs of the device of this number.
+/// Numbers count from 0. It answers 0 to 5, as `proved_agent_may` does; -1 where there aren't 1 to 128 arcs, and -2
+/// where there is no such receiver or device.
+#[unsafe(no_mangle)]
+pub unsafe extern "C" fn proved_gate_may_notify(
+    at: *mut u8,
+    receiver: u64,
+    device: u64,
+    arcs: &[u32],
+) -> i32
+    ghost held: { GateHeld }
+    requires* { sem 𝓛 (lies_at gates.the_row full_share at held) }
+    ensures* { ∃ₛ (λ (new : GateHeld). sem 𝓛
+        (lies_at gates.the_row full_share at new) ∗ ⌜ TellsMayNotify receiver device arcs.now held new result ⌝) }
+{
+    may_notify(&mut *(at as *mut GateHandle), receiver, device, arcs)
 }
 
 /// Writes three numbers: that of the request that the last call was about, that of the device, and how many requests

@@ -2,10 +2,10 @@
 
 ghost use Rattle.snmp_c.specs.GateCalls.{ClearsGate, TakesFromClient, TakesFromDevice, SendsDue, TellsDue};
 ghost use Rattle.snmp_c.specs.GateCalls.{TellsDatagram, TellsClientOf, TellsSetting, TellsNumbersOf, GateCounter};
-ghost use Rattle.snmp_c.specs.GateCalls.{GateCount};
+ghost use Rattle.snmp_c.specs.GateCalls.{GateCount, TellsMayNotify};
 
 use gate_handles::{GateHandle, GateText, event_code_of};
-use snmp_handles::{CallFault, code_of, counter_of, value_code_of};
+use snmp_handles::{CallFault, access_code_of, code_of, counter_of, value_code_of};
 
 /// Takes a datagram from a client.
 pub(crate) fn take_client(handle: &mut GateHandle, now: u64, client: &[u8], datagram: &[u8]) -> i32
@@ -69,6 +69,13 @@ pub(crate) fn setting(
         Some(setting) => code_of(handle.setting(setting, position as usize, out, written)),
         None => CallFault::BadArgument.code(),
     }
+}
+
+/// Whether a receiver may be notified of a variable of a device.
+pub(crate) fn may_notify(handle: &mut GateHandle, receiver: u64, device: u64, arcs: &[u32]) -> i32
+    ensures { TellsMayNotify receiver device arcs.now handle.old handle.new result }
+{
+    access_code_of(handle.may_notify(receiver as usize, device as usize, arcs))
 }
 
 /// Copies the numbers of the last call.

@@ -14,6 +14,8 @@ pub mod configuration;
 pub mod devices;
 pub mod dispatch;
 mod dispatch_calls;
+pub mod forward;
+mod forward_calls;
 pub mod gate;
 mod gate_calls;
 pub mod kept;

@@ -22,14 +22,17 @@ use Rattle.snmpsec_config.specs.Documents.{HasRows, IsFirstBad, IsFirstBadOf, va
 use Rattle.snmpsec_config.specs.Refusals.{TellsBadRow, TellsNoDocument}
 use Rattle.snmpsec_gate_config.specs.declared.settings.GateSettings.{GateSettings}
 use Rattle.snmpsec_gate_config.specs.declared.settings.DeviceSettings.{DeviceSettings}
+use Rattle.snmpsec_gate_config.specs.declared.settings.ReceiverSettings.{ReceiverSettings}
+use Rattle.snmpsec_gate_config.specs.declared.receiver.ReceiverFault.{ReceiverFault}
 use Rattle.snmpsec_gate_config.specs.declared.fault.GateFault.{GateFault}
 use Rattle.snmpsec_gate_config.specs.declared.fault.GateFault.TheVariants as faults
 use Rattle.snmpsec_gate_config.specs.declared.fault.GateTableFault.{GateTableFault}
 use Rattle.snmpsec_gate_config.specs.declared.fault.GateTableFault.TheVariants as table_faults
 use Rattle.snmpsec_gate_config.specs.declared.table.GateTable.TheVariants as tables
-use Rattle.snmpsec_gate_config.specs.Rows.{IsDevice}
-use Rattle.snmpsec_gate_config.specs.Documents.{IsTop, IsWritten, HasGate, HasDevices, devices_of}
-use Rattle.snmpsec_gate_config.specs.Refusals.{Says, Refuses, RefusesDocument, TellsNoGate, TellsNoDevices, TellsNoRows, TellsNoTable, device_refusal, user_fault, access_fault}
+use Rattle.snmpsec_gate_config.specs.Rows.{IsDevice, IsReceiver}
+use Rattle.snmpsec_gate_config.specs.Receivers.{IsFirstUnfit}
+use Rattle.snmpsec_gate_config.specs.Documents.{IsTop, IsWritten, HasGate, HasDevices, HasReceivers, devices_of, receivers_of}
+use Rattle.snmpsec_gate_config.specs.Refusals.{Says, Refuses, RefusesDocument, TellsNoGate, TellsNoDevices, TellsNoReceivers, TellsNoRows, TellsNoTable, device_refusal, receiver_refusal, user_fault, access_fault}
 
 -- ---- documents
 
@@ -46,6 +49,8 @@ no_gate d (faults.Top key) top h = absurd h
 no_gate d (faults.Gate fault) top h = (record { top = top; no_gate = h.1 }, h.0)
 no_gate d (faults.Device position fault) top h = absurd h
 no_gate d (faults.Duplicate position) top h = absurd h
+no_gate d (faults.Receiver position fault) top h = absurd h
+no_gate d (faults.Unfit position fault) top h = absurd h
 no_gate d (faults.Config (config_faults.Nested line column)) top h = absurd h
 no_gate d (faults.Config (config_faults.Toml fault)) top h = absurd h
 no_gate d (faults.Config (config_faults.Top key)) top h = absurd h
@@ -58,6 +63,8 @@ no_devices d (faults.Top key) top gate h = absurd h
 no_devices d (faults.Gate fault) top gate h = absurd h
 no_devices d (faults.Device position fault) top gate h = (record { top = top; gate = gate; first = h.0 }, h.1)
 no_devices d (faults.Duplicate position) top gate h = absurd h
+no_devices d (faults.Receiver position fault) top gate h = absurd h
+no_devices d (faults.Unfit position fault) top gate h = absurd h
 no_devices d (faults.Config (config_faults.Nested line column)) top gate h = absurd h
 no_devices d (faults.Config (config_faults.Toml fault)) top gate h = absurd h
 no_devices d (faults.Config (config_faults.Top key)) top gate h = absurd h
@@ -65,20 +72,39 @@ no_devices d (faults.Config (config_faults.BadKey of position fault)) top gate h
 no_devices d (faults.Config (config_faults.Row of position wrong)) top gate h = absurd h
 no_devices d (faults.Config config_faults.OutOfMemory) top gate h = tt
 
-pub no_rows : (d : Members) (f : ConfigFault) → IsTop d → HasGate d → HasDevices d → TellsNoRows d f → RefusesDocument d (faults.Config f)
-no_rows d (config_faults.Nested line column) top gate devices h = absurd h
-no_rows d (config_faults.Toml fault) top gate devices h = absurd h
-no_rows d (config_faults.Top key) top gate devices h = absurd h
-no_rows d (config_faults.BadKey of position fault) top gate devices h = (record { top = top; gate = gate; devices = devices; first = h.0 }, h.1)
-no_rows d (config_faults.Row of position wrong) top gate devices h = absurd h
-no_rows d config_faults.OutOfMemory top gate devices h = tt
+pub no_receivers : (d : Members) (f : GateFault) → IsTop d → HasGate d → HasDevices d → TellsNoReceivers d f → RefusesDocument d f
+no_receivers d (faults.Top key) top gate devices h = absurd h
+no_receivers d (faults.Gate fault) top gate devices h = absurd h
+no_receivers d (faults.Device position fault) top gate devices h = absurd h
+no_receivers d (faults.Duplicate position) top gate devices h = absurd h
+no_receivers d (faults.Receiver position fault) top gate devices h = (record { top = top; gate = gate; devices = devices; first = h.0 }, h.1)
+no_receivers d (faults.Unfit position fault) top gate devices h = absurd h
+no_receivers d (faults.Config (config_faults.Nested line column)) top gate devices h = absurd h
+no_receivers d (faults.Config (config_faults.Toml fault)) top gate devices h = absurd h
+no_receivers d (faults.Config (config_faults.Top key)) top gate devices h = absurd h
+no_receivers d (faults.Config (config_faults.BadKey of position fault)) top gate devices h = absurd h
+no_receivers d (faults.Config (config_faults.Row of position wrong)) top gate devices h = absurd h
+no_receivers d (faults.Config config_faults.OutOfMemory) top gate devices h = tt
 
--- ---- a device
+pub no_rows : (d : Members) (f : ConfigFault) → IsTop d → HasGate d → HasDevices d → HasReceivers d → TellsNoRows d f → RefusesDocument d (faults.Config f)
+no_rows d (config_faults.Nested line column) top gate devices receivers h = absurd h
+no_rows d (config_faults.Toml fault) top gate devices receivers h = absurd h
+no_rows d (config_faults.Top key) top gate devices receivers h = absurd h
+no_rows d (config_faults.BadKey of position fault) top gate devices receivers h = (record { top = top; gate = gate; devices = devices; receivers = receivers; first = h.0 }, h.1)
+no_rows d (config_faults.Row of position wrong) top gate devices receivers h = absurd h
+no_rows d config_faults.OutOfMemory top gate devices receivers h = tt
+
+-- ---- a device, a receiver
 
 pub tells_device : (d : Members) (position : ℕ) (f : GateTableFault) (t : Members) → (((made : DeviceSettings) → IsDevice t made → ⊥) → IsFirstBad IsDevice (devices_of d) position)
     → get_item position (devices_of d) ≡ Some (table t) → TellsNoTable tables.Device IsDevice t f → TellsNoDevices d (device_refusal position f)
 tells_device d position (table_faults.Key fault) t first there h = (first h.1, (t, there, h.0))
 tells_device d position table_faults.OutOfMemory t first there h = tt
+
+pub tells_receiver : (d : Members) (position : ℕ) (f : GateTableFault) (t : Members) → (((made : ReceiverSettings) → IsReceiver t made → ⊥) → IsFirstBad IsReceiver (receivers_of d) position)
+    → get_item position (receivers_of d) ≡ Some (table t) → TellsNoTable tables.Receiver IsReceiver t f → TellsNoReceivers d (receiver_refusal position f)
+tells_receiver d position (table_faults.Key fault) t first there h = (first h.1, (t, there, h.0))
+tells_receiver d position table_faults.OutOfMemory t first there h = tt
 
 -- ---- the rows of users and access
 
@@ -134,21 +160,25 @@ never_bad_at position earlier (Some row) h = never_bad position earlier row (lis
 pub no_bad_context : (rows : Tables) (position : ℕ) → access_rows.IsTold rows (vacm_faults.BadRow vacm_tables.Contexts position) → ⊥
 no_bad_context rows position h = never_bad_at position (take position rows.contexts) (slice_get rows.contexts position) (ap (option_map (access_rows.told vacm_tables.Contexts position)) h.there)
 
-module _ (text : List ℕ) (gate : GateSettings) (devices : List DeviceSettings) (users : List UserRow) (rows : Tables) (s : Says text gate devices users rows) where
+module _ (text : List ℕ) (gate : GateSettings) (devices : List DeviceSettings) (receivers : List ReceiverSettings) (users : List UserRow) (rows : Tables) (s : Says text gate devices receivers users rows) where
   pub user_told : (f : UserFault) → user_rows.IsTold users f → Refuses text (user_fault f)
-  user_told (user_faults.BadUser position) h = (s.document, s.is_document, (gate, devices, users, rows, s.stands, tt, h))
-  user_told (user_faults.ShortPassword position) h = (s.document, s.is_document, (gate, devices, users, rows, s.stands, tt, h))
-  user_told (user_faults.DuplicateUser position) h = (s.document, s.is_document, (gate, devices, users, rows, s.stands, tt, h))
+  user_told (user_faults.BadUser position) h = (s.document, s.is_document, (gate, devices, receivers, users, rows, s.stands, tt, h))
+  user_told (user_faults.ShortPassword position) h = (s.document, s.is_document, (gate, devices, receivers, users, rows, s.stands, tt, h))
+  user_told (user_faults.DuplicateUser position) h = (s.document, s.is_document, (gate, devices, receivers, users, rows, s.stands, tt, h))
   user_told user_faults.OutOfMemory h = tt
 
   pub access_told : user_rows.AreSound users → (f : VacmFault) → access_rows.IsTold rows f → Refuses text (access_fault f)
   access_told sound (vacm_faults.BadRow vacm_tables.Contexts position) h = absurd (no_bad_context rows position h)
-  access_told sound (vacm_faults.BadRow vacm_tables.Groups position) h = (s.document, s.is_document, (gate, devices, users, rows, s.stands, tt, (sound, h)))
-  access_told sound (vacm_faults.BadRow vacm_tables.Access position) h = (s.document, s.is_document, (gate, devices, users, rows, s.stands, tt, (sound, h)))
-  access_told sound (vacm_faults.BadRow vacm_tables.Families position) h = (s.document, s.is_document, (gate, devices, users, rows, s.stands, tt, (sound, h)))
+  access_told sound (vacm_faults.BadRow vacm_tables.Groups position) h = (s.document, s.is_document, (gate, devices, receivers, users, rows, s.stands, tt, (sound, h)))
+  access_told sound (vacm_faults.BadRow vacm_tables.Access position) h = (s.document, s.is_document, (gate, devices, receivers, users, rows, s.stands, tt, (sound, h)))
+  access_told sound (vacm_faults.BadRow vacm_tables.Families position) h = (s.document, s.is_document, (gate, devices, receivers, users, rows, s.stands, tt, (sound, h)))
   access_told sound (vacm_faults.Duplicate vacm_tables.Contexts position) h =
-      (s.document, s.is_document, record { gate = gate; devices = devices; users = users; rows = rows; stands = s.stands; sound_users = sound; duplicate = h })
-  access_told sound (vacm_faults.Duplicate vacm_tables.Groups position) h = (s.document, s.is_document, (gate, devices, users, rows, s.stands, tt, (sound, h)))
-  access_told sound (vacm_faults.Duplicate vacm_tables.Access position) h = (s.document, s.is_document, (gate, devices, users, rows, s.stands, tt, (sound, h)))
-  access_told sound (vacm_faults.Duplicate vacm_tables.Families position) h = (s.document, s.is_document, (gate, devices, users, rows, s.stands, tt, (sound, h)))
+      (s.document, s.is_document, record { gate = gate; devices = devices; receivers = receivers; users = users; rows = rows; stands = s.stands; sound_users = sound; duplicate = h })
+  access_told sound (vacm_faults.Duplicate vacm_tables.Groups position) h = (s.document, s.is_document, (gate, devices, receivers, users, rows, s.stands, tt, (sound, h)))
+  access_told sound (vacm_faults.Duplicate vacm_tables.Access position) h = (s.document, s.is_document, (gate, devices, receivers, users, rows, s.stands, tt, (sound, h)))
+  access_told sound (vacm_faults.Duplicate vacm_tables.Families position) h = (s.document, s.is_document, (gate, devices, receivers, users, rows, s.stands, tt, (sound, h)))
   access_told sound vacm_faults.OutOfMemory h = tt
+
+  pub unfit_told : user_rows.AreSound users → access_rows.AreSound rows → (position : ℕ) (fault : ReceiverFault) → IsFirstUnfit users receivers position fault → Refuses text (faults.Unfit position fault)
+  unfit_told sound sound_rows position fault h =
+      (s.document, s.is_document, record { gate = gate; devices = devices; receivers = receivers; users = users; rows = rows; stands = s.stands; sound_users = sound; sound_rows = sound_rows; first = h })

@@ -1,13 +1,14 @@
--- What is told of the keys of [gate] and of a device.
-use Rattle.std.proofs.Common.{◌≡◌, ℕ, false, Bool, List, [], ◌∷◌, ◌++◌, Option, Some, None, ◌⊎◌, refl, inl, inr}
+-- What is told of the keys of [gate], of a device and of a receiver.
+use Rattle.std.proofs.Common.{◌≡◌, ◌∙◌, ℕ, true, false, is_some, option_map, Bool, List, [], ◌∷◌, ◌++◌, Option, Some, None, ◌⊎◌, refl, inl, inr}
 use Rattle.std.specs.Prelude.{⊤}
 use Rattle.toml.specs.Data.{Data, Members, no_members, member}
 use Rattle.snmpsec_config.specs.Keys.{EachKey, FirstKey}
 use Rattle.snmpsec_config.proofs.Told.{wrong_if_any, none_wrong}
 use Rattle.snmpsec_gate_config.specs.Keys.{at, listed, HasOnlyListed, IsFirstUnlisted}
-use Rattle.snmpsec_gate_config.specs.Rows.{IsGate, IsDevice, AreGateLimits, AreDeviceLimits}
-use Rattle.snmpsec_gate_config.specs.Values.{Allows, IsRightAt, IsFirstWrong, IsFirstFault, IsLimit, IsFlagOrFalse, IsCommunityIfAny, value_fault}
-use Rattle.snmpsec_gate_config.specs.Refusals.{TellsKey, TellsNoTable, TellsUnlisted, TellsNoAddresses, key_fault}
+use Rattle.snmpsec_gate_config.specs.Rows.{IsGate, IsDevice, IsReceiver, AreGateLimits, AreDeviceLimits}
+use Rattle.snmpsec_gate_config.specs.Values.{Allows, IsRightAt, IsFirstWrong, IsFirstFault, IsLimit, IsFlagOrFalse, AreAddressesIfAny, IsCommunityIfAny, IsTrapKindIfAny, value_fault}
+use Rattle.std.specs.declared.net.socket_addr.SocketAddr.{SocketAddr}
+use Rattle.snmpsec_gate_config.specs.Refusals.{TellsKey, TellsNoTable, TellsUnlisted, TellsNoAddresses, TellsNoAddressesIfAny, key_fault}
 use Rattle.snmpsec_gate_config.specs.declared.values.GateValueFault.{GateValueFault}
 use Rattle.snmpsec_gate_config.specs.declared.settings.GateSettings.{GateSettings}
 use Rattle.snmpsec_gate_config.specs.declared.table.GateTable.{GateTable}
@@ -42,6 +43,20 @@ right_if_any v (Some community) h = inl (community, h)
 
 pub wrong_community_if_any : (v : Option Data) → ((own : Option (List ℕ)) → IsCommunityIfAny v own → ⊥) → Allows keys.WriteCommunity v ⊎ ((v ≡ None) × ⊤) → ⊥
 wrong_community_if_any v none = wrong_if_any v (λ a. none (Some a.0) a.1) (λ e. none None e)
+
+pub right_addresses_if_any : (v : Option Data) (addresses : List SocketAddr) → AreAddressesIfAny v addresses → Allows keys.Traps v ⊎ ((v ≡ None) × ⊤)
+right_addresses_if_any v addresses (inl h) = inl (addresses, h)
+right_addresses_if_any v addresses (inr h) = inr (h.0, tt)
+
+wrong_addresses_if_any : (v : Option Data) → ((addresses : List SocketAddr) → AreAddressesIfAny v addresses → ⊥) → Allows keys.Traps v ⊎ ((v ≡ None) × ⊤) → ⊥
+wrong_addresses_if_any v none = wrong_if_any v (λ a. none a.0 (inl a.1)) (λ e. none [] (inr (e, refl)))
+
+right_kind : (v : Option Data) → IsTrapKindIfAny v → Allows keys.Kind v ⊎ ((v ≡ None) × ⊤)
+right_kind v (inl h) = inl h
+right_kind v (inr h) = inr (h, tt)
+
+pub wrong_kind : (v : Option Data) → (IsTrapKindIfAny v → ⊥) → Allows keys.Kind v ⊎ ((v ≡ None) × ⊤) → ⊥
+wrong_kind v none = wrong_if_any v (λ a. none (inl a)) (λ e. none (inr e))
 
 -- ---- keys in their order
 
@@ -80,10 +95,13 @@ device_limits_right t h = (right_limit _ _ _ h.repetitions, (right_limit _ _ _ h
 
 pub gate_right : (t : Members) {gate : _} → IsGate t gate → EachKey (IsRightAt t) (listed tables.Gate)
 gate_right t h =
-    let flags : EachKey (IsRightAt t) flag_keys = (right_flag _ _ h.long_answers, (right_flag _ _ h.report_unreachable, tt)) in (inl (_, h.engine), (inl (_, h.boots), (inl (_, h.listen), each_behind (IsRightAt t) gate_limit_keys flag_keys (gate_limits_right t h.limits) flags)))
+    let flags : EachKey (IsRightAt t) flag_keys = (right_flag _ _ h.long_answers, (right_flag _ _ h.report_unreachable, tt)) in (inl (_, h.engine), (inl (_, h.boots), (inl (_, h.listen), (right_addresses_if_any _ _ h.traps, each_behind (IsRightAt t) gate_limit_keys flag_keys (gate_limits_right t h.limits) flags))))
 
 pub device_right : (t : Members) {device : _} → IsDevice t device → EachKey (IsRightAt t) (listed tables.Device)
 device_right t h = (inl (_, h.context), (inl (_, h.address), (inl (_, h.community), (right_if_any _ _ h.write_community, device_limits_right t h.limits))))
+
+pub receiver_right : (t : Members) {receiver : _} → IsReceiver t receiver → EachKey (IsRightAt t) (listed tables.Receiver)
+receiver_right t h = (inl (_, h.address), (inl (_, h.user), (inl (_, h.level), (right_kind _ h.kind, tt))))
 
 -- ---- what is told
 
@@ -118,6 +136,22 @@ pub tells_addresses : (row : Members) (f : GateTableFault) → HasOnlyListed tab
 tells_addresses row (table_faults.Key fault) only engine boots h =
     rw h.0 (tells tables.Gate IsGate row _ keys.Listen refl only (inr (engine, inr (boots, inl (refl, λ right. elim right [ inl a ↦ h.1 a.0 a.1 | inr b ↦ b.1 ])))) (λ made stands. gate_right row stands))
 tells_addresses row table_faults.OutOfMemory only engine boots h = tt
+
+-- a value that is there
+pub some_value : {A B : Type 0} (f : A → B) (r : Option A) (v : Option B) → option_map f r ≡ v → is_some r ≡ true → v ≡ None → ⊥
+some_value f None v e some none = let never : false ≡ true = some in cc
+some_value f (Some x) v e some none = let never : Some (f x) ≡ None = e ∙ none in cc
+
+-- a key that is there, and has no addresses
+pub no_addresses_if_any : (row : Members) (key : GateKey) (f : GateTableFault) → (at row key ≡ None → ⊥) → TellsNoAddresses row key f → TellsNoAddressesIfAny row key f
+no_addresses_if_any row key (table_faults.Key fault) there h = (h.0, λ addresses is. elim is [ inl a ↦ h.1 addresses a | inr b ↦ there b.0 ])
+no_addresses_if_any row key table_faults.OutOfMemory there h = tt
+
+-- addresses of Traps that aren't right, after the keys before
+pub tells_traps : (row : Members) (f : GateTableFault) → HasOnlyListed tables.Gate row → IsRightAt row keys.Engine → IsRightAt row keys.Boots → IsRightAt row keys.Listen → TellsNoAddressesIfAny row keys.Traps f → TellsNoTable tables.Gate IsGate row f
+tells_traps row (table_faults.Key fault) only engine boots listen h =
+    rw h.0 (tells tables.Gate IsGate row _ keys.Traps refl only (inr (engine, inr (boots, inr (listen, inl (refl, wrong_addresses_if_any _ h.1))))) (λ made stands. gate_right row stands))
+tells_traps row table_faults.OutOfMemory only engine boots listen h = tt
 
 -- without [gate] the engine ID is missing
 pub no_gate_table : (t : Members) → t ≡ no_members → TellsKey tables.Gate t (Missing keys.Engine) × ((gate : GateSettings) → IsGate t gate → ⊥)

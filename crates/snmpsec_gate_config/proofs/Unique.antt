@@ -1,9 +1,9 @@
 -- A text says one thing of a gateway.
-use Rattle.std.proofs.Common.{◌≡◌, ℕ, Bool, List, [], ◌∷◌, map, Option, Some, None, refl, sym, ap, ◌∙◌, subst, inl, inr}
+use Rattle.std.proofs.Common.{◌≡◌, ℕ, Bool, List, [], ◌∷◌, length, map, Option, Some, None, refl, sym, ap, ◌∙◌, subst, inl, inr, arith}
 use Rattle.std.specs.declared.net.socket_addr.SocketAddr.{SocketAddr}
 use Rattle.std.specs.Net.Grammar.{IsSocketText}
 use Rattle.std.proofs.NetLemmas.Theorems.{IsSocketText_unique}
-use Rattle.toml.specs.Data.{Data, boolean, string, Items, no_items, item, Members}
+use Rattle.toml.specs.Data.{Data, boolean, string, array, Items, no_items, item, Members}
 use Rattle.usm_users.specs.declared.load.UserRow.{UserRow}
 use Rattle.vacm_core.specs.Tables.{Tables}
 use Rattle.vacm_core.specs.declared.rows.ContextRow.{ContextRow}
@@ -13,13 +13,18 @@ use Rattle.vacm_core.specs.declared.rows.FamilyRow.{FamilyRow}
 use Rattle.snmpsec_config.specs.Rows.{IsUserRow, IsGroupRow, IsAccessRow, IsFamilyRow, user_values}
 use Rattle.snmpsec_config.specs.Documents.{values_in}
 use Rattle.snmpsec_config.proofs.Unique.{same_text, same_flag, one_user, one_group, one_access, one_family, one_list, same_list, one_document}
-use Rattle.snmpsec_gate_config.specs.Values.{IsEngineId, IsAddress, AreAddressesIn, AreAddresses, IsCommunityIfAny, IsLimit, IsFlagOrFalse}
-use Rattle.snmpsec_gate_config.specs.Rows.{IsGate, IsDevice, context_row, gate_values, device_values}
+use Rattle.snmpsec_gate_config.specs.Values.{IsEngineId, IsAddress, AreAddressesIn, AreAddresses, AreAddressesIfAny, IsCommunityIfAny, IsLimit, IsFlagOrFalse}
+use Rattle.snmpsec_gate_config.specs.Rows.{IsGate, IsDevice, IsReceiver, context_row, gate_values, device_values}
 use Rattle.snmpsec_gate_config.specs.Documents.{StandsFor}
 use Rattle.snmpsec_gate_config.specs.Refusals.{Says}
 use Rattle.snmpsec_gate_config.specs.declared.table.LimitKey.{LimitKey}
 use Rattle.snmpsec_gate_config.specs.declared.settings.GateSettings.{GateSettings}
 use Rattle.snmpsec_gate_config.specs.declared.settings.DeviceSettings.{DeviceSettings}
+use Rattle.snmpsec_gate_config.specs.declared.settings.ReceiverSettings.{ReceiverSettings}
+use Rattle.snmp_ber.specs.declared.level.Level.{Level}
+use Rattle.snmp_ber.specs.declared.level.Level.TheVariants.{NoAuthNoPriv, AuthNoPriv, AuthPriv}
+use Rattle.snmpsec_config.specs.Words.{level_word}
+use Rattle.snmpsec_config.specs.Values.{IsLevel}
 
 -- ---- a value says one thing
 
@@ -34,6 +39,20 @@ same_address : (v : Option Data) (a b : SocketAddr) → IsAddress v a → IsAddr
 same_address v a b h k =
     let text : h.0 ≡ k.0 = same_text v h.0 k.0 h.1 k.1 in
     IsSocketText_unique h.0 a b h.2 (subst (λ (t : List ℕ). IsSocketText t b) (sym text) k.2)
+
+level_of_word : (l m : Level) → length (level_word l) ≡ length (level_word m) → l ≡ m
+level_of_word NoAuthNoPriv NoAuthNoPriv e = refl
+level_of_word AuthNoPriv AuthNoPriv e = refl
+level_of_word AuthPriv AuthPriv e = refl
+level_of_word NoAuthNoPriv AuthNoPriv e = absurd (omega (arith, e))
+level_of_word NoAuthNoPriv AuthPriv e = absurd (omega (arith, e))
+level_of_word AuthNoPriv NoAuthNoPriv e = absurd (omega (arith, e))
+level_of_word AuthNoPriv AuthPriv e = absurd (omega (arith, e))
+level_of_word AuthPriv NoAuthNoPriv e = absurd (omega (arith, e))
+level_of_word AuthPriv AuthNoPriv e = absurd (omega (arith, e))
+
+same_level : (v : Option Data) (a b : Level) → IsLevel v a → IsLevel v b → a ≡ b
+same_level v a b h k = level_of_word a b (ap length (same_text v (level_word a) (level_word b) h k))
 
 same_addresses_in : (values : Items) (a b : List SocketAddr) → AreAddressesIn values a → AreAddressesIn values b → a ≡ b
 same_addresses_in no_items [] [] h k = refl
@@ -50,6 +69,12 @@ same_addresses : (v : Option Data) (a b : List SocketAddr) → AreAddresses v a 
 same_addresses v a b h k =
     let values : h.0 ≡ k.0 = sym (ap values_in h.1) ∙ ap values_in k.1 in
     same_addresses_in k.0 a b (subst (λ (x : Items). AreAddressesIn x a) values h.2) k.2
+
+same_addresses_if_any : (v : Option Data) (a b : List SocketAddr) → AreAddressesIfAny v a → AreAddressesIfAny v b → a ≡ b
+same_addresses_if_any v a b (inl h) (inl k) = same_addresses v a b h k
+same_addresses_if_any v a b (inl h) (inr k) = let e : Some (array h.0) ≡ None = sym h.1 ∙ k.0 in cc
+same_addresses_if_any v a b (inr h) (inl k) = let e : Some (array k.0) ≡ None = sym k.1 ∙ h.0 in cc
+same_addresses_if_any v a b (inr h) (inr k) = h.1 ∙ sym k.1
 
 same_if_any : (v : Option Data) (a b : Option (List ℕ)) → IsCommunityIfAny v a → IsCommunityIfAny v b → a ≡ b
 same_if_any v None None h k = refl
@@ -76,6 +101,7 @@ one_gate t a b h k =
     let engine = same_engine _ _ _ h.engine k.engine in
     let boots = same_text _ _ _ h.boots.0 k.boots.0 in
     let listen = same_addresses _ _ _ h.listen k.listen in
+    let traps = same_addresses_if_any _ _ _ h.traps k.traps in
     let waiting = same_limit _ _ _ _ h.limits.waiting k.limits.waiting in
     let rounds = same_limit _ _ _ _ h.limits.rounds k.limits.rounds in
     let again = same_limit _ _ _ _ h.limits.again k.limits.again in
@@ -97,6 +123,16 @@ one_device t a b h k =
     let at_once = same_limit _ _ _ _ h.limits.at_once k.limits.at_once in
     cc
 
+abbrev receiver_settings : SocketAddr → List ℕ → Level → ReceiverSettings
+receiver_settings address' user' level' = record { address = address'; user = user'; level = level' }
+
+one_receiver : (t : Members) (a b : ReceiverSettings) → IsReceiver t a → IsReceiver t b → a ≡ b
+one_receiver t a b h k =
+    let address = same_address _ _ _ h.address k.address in
+    let user = same_text _ _ _ h.user.0 k.user.0 in
+    let level = same_level _ _ _ h.level k.level in
+    ap (λ x. receiver_settings x a.user a.level) address ∙ ap (λ x. receiver_settings b.address x a.level) user ∙ ap (λ x. receiver_settings b.address b.user x) level
+
 one_device_context : (t : Members) (a b : DeviceSettings) → IsDevice t a → IsDevice t b → context_row a ≡ context_row b
 one_device_context t a b h k = let context = same_text _ _ _ h.context.0 k.context.0 in cc
 
@@ -105,8 +141,8 @@ one_device_context t a b h k = let context = same_text _ _ _ h.context.0 k.conte
 abbrev tables_with : List ContextRow → List GroupRow → List AccessRow → List FamilyRow → Tables
 tables_with contexts' groups' access' families' = record { contexts = contexts'; groups = groups'; access = access'; families = families' }
 
-same_rows : (d : Members) (gate other : GateSettings) (devices others : List DeviceSettings) (users these : List UserRow) (rows more : Tables) → StandsFor d gate devices users rows → StandsFor d other others these more → rows ≡ more
-same_rows d gate other devices others users these rows more s o =
+same_rows : (d : Members) (gate other : GateSettings) (devices others : List DeviceSettings) (receivers those : List ReceiverSettings) (users these : List UserRow) (rows more : Tables) → StandsFor d gate devices receivers users rows → StandsFor d other others those these more → rows ≡ more
+same_rows d gate other devices others receivers those users these rows more s o =
     let s' = s.config_rows in
     let o' = o.config_rows in
     let contexts : rows.contexts ≡ more.contexts = s'.contexts ∙ (one_list IsDevice context_row one_device_context _ devices others s.device_tables o.device_tables ∙ sym o'.contexts) in
@@ -115,8 +151,8 @@ same_rows d gate other devices others users these rows more s o =
     let families = same_list IsFamilyRow one_family _ _ _ s'.families o'.families in
     ap (λ x. tables_with x rows.groups rows.access rows.families) contexts ∙ ap (λ x. tables_with more.contexts x rows.access rows.families) groups ∙ ap (λ x. tables_with more.contexts more.groups x rows.families) access ∙ ap (λ x. tables_with more.contexts more.groups more.access x) families
 
-module _ (text : List ℕ) (gate other : GateSettings) (devices others : List DeviceSettings) (users these : List UserRow) (rows more : Tables) (s : Says text gate devices users rows) (o : Says text other others these more) where
-  stands : StandsFor s.document other others these more
+module _ (text : List ℕ) (gate other : GateSettings) (devices others : List DeviceSettings) (receivers those : List ReceiverSettings) (users these : List UserRow) (rows more : Tables) (s : Says text gate devices receivers users rows) (o : Says text other others those these more) where
+  stands : StandsFor s.document other others those these more
   stands = rw (one_document text s.document o.document s.is_document o.is_document) o.stands
 
   pub same_gate : gate_values gate ≡ gate_values other
@@ -125,8 +161,11 @@ module _ (text : List ℕ) (gate other : GateSettings) (devices others : List De
   pub same_devices : map device_values devices ≡ map device_values others
   same_devices = one_list IsDevice device_values one_device _ devices others s.stands.device_tables stands.device_tables
 
+  pub same_receivers : receivers ≡ those
+  same_receivers = same_list IsReceiver one_receiver _ receivers those s.stands.receiver_tables stands.receiver_tables
+
   pub same_users : map user_values users ≡ map user_values these
   same_users = one_list IsUserRow user_values one_user _ users these s.stands.config_rows.user_rows stands.config_rows.user_rows
 
   pub same_tables : rows ≡ more
-  same_tables = same_rows s.document gate other devices others users these rows more s.stands stands
+  same_tables = same_rows s.document gate other devices others receivers those users these rows more s.stands stands

@@ -3,6 +3,7 @@ pub mod Limits
 pub mod Values
 pub mod Rows
 pub mod Documents
+pub mod Receivers
 pub mod Refusals
 pub mod Told
 pub mod Oddities

@@ -4,8 +4,9 @@
 -- users and tables are what the rows load to.
 --
 -- `Refuses text fault`, `RefusesText`. The cause of the fault holds of the text, and it isn't that memory ran out. The
--- order of looking: the text, its top, [gate], the devices, the rows of each table; then users, contexts (which are the
--- devices), groups, access and families as they load. `refusal_line`: the line that is printed.
+-- order of looking: the text, its top, [gate], the devices, the receivers, the rows of each table; then users, contexts
+-- (which are the devices), groups, access and families as they load; then whether notifications can be sent to each
+-- receiver. `refusal_line`: the line that is printed.
 use Rattle.std.specs.Prelude.{◌≡◌, ◌≢◌, ⊤, ℕ, List, ◌++◌, codes, decimal, map, if◌then◌else◌, string_bytes}
 use Rattle.std.specs.Prelude.{Some, None}
 use Rattle.toml.specs.Data.{Members, table, get_item}
@@ -26,6 +27,10 @@ use Rattle.snmpsec_gate_config.specs.declared.table.GateTable.{GateTable}
 use Rattle.snmpsec_gate_config.specs.declared.table.GateTable.TheVariants as tables
 use Rattle.snmpsec_gate_config.specs.declared.settings.GateSettings.{GateSettings}
 use Rattle.snmpsec_gate_config.specs.declared.settings.DeviceSettings.{DeviceSettings}
+use Rattle.snmpsec_gate_config.specs.declared.settings.ReceiverSettings.{ReceiverSettings}
+use Rattle.snmpsec_gate_config.specs.declared.receiver.ReceiverFault.{ReceiverFault}
+use Rattle.snmpsec_gate_config.specs.declared.receiver.ReceiverFault.TheVariants as receiver_faults
+use Rattle.snmpsec_gate_config.specs.Receivers.{AreReceivers, IsFirstUnfit}
 use Rattle.snmpsec_gate_config.specs.declared.values.GateValueFault.{GateValueFault}
 use Rattle.snmpsec_gate_config.specs.declared.fault.GateKeyFault.{GateKeyFault}
 use Rattle.snmpsec_gate_config.specs.declared.fault.GateKeyFault.TheVariants.{Unlisted, Missing, Value}
@@ -34,35 +39,37 @@ use Rattle.snmpsec_gate_config.specs.declared.fault.GateTableFault.TheVariants a
 use Rattle.snmpsec_gate_config.specs.declared.fault.GateFault.{GateFault}
 use Rattle.snmpsec_gate_config.specs.declared.fault.GateFault.TheVariants as faults
 use Rattle.snmpsec_gate_config.specs.Keys.{at, HasOnlyListed, IsFirstUnlisted}
-use Rattle.snmpsec_gate_config.specs.Values.{AreAddresses, IsFirstWrong, value_fault}
-use Rattle.snmpsec_gate_config.specs.Rows.{IsGate, IsDevice}
+use Rattle.snmpsec_gate_config.specs.Values.{AreAddresses, AreAddressesIfAny, IsFirstWrong, value_fault}
+use Rattle.snmpsec_gate_config.specs.Rows.{IsGate, IsDevice, IsReceiver}
 use Rattle.snmpsec_gate_config.specs.declared.table.GateKey.{GateKey}
 use Rattle.std.specs.declared.net.socket_addr.SocketAddr.{SocketAddr}
 use Rattle.snmpsec_config.specs.Documents.{IsFirstBad}
 use Rattle.snmpsec_gate_config.specs.Documents.{StandsFor, IsWritten, IsBadTop, IsBadGate, IsBadDeviceAt, IsFirstBadRow}
-use Rattle.snmpsec_gate_config.specs.Documents.{IsBadRowAt}
-use Rattle.snmpsec_gate_config.specs.Documents.{gate_of, devices_of}
+use Rattle.snmpsec_gate_config.specs.Documents.{IsBadReceiverAt, IsBadRowAt}
+use Rattle.snmpsec_gate_config.specs.Documents.{gate_of, devices_of, receivers_of}
 
 -- The text says this of a gateway.
-pub record Says (text : List ℕ) (gate : GateSettings) (devices : List DeviceSettings) (users : List UserRow)
-    (rows : Tables) : Type 0 where
+pub record Says (text : List ℕ) (gate : GateSettings) (devices : List DeviceSettings)
+    (receivers : List ReceiverSettings) (users : List UserRow) (rows : Tables) : Type 0 where
   pub document : Members
   pub is_document : IsDocument text document
-  pub stands : StandsFor document gate devices users rows
+  pub stands : StandsFor document gate devices receivers users rows
 
--- The text says this of a gateway, and none of the rows is at fault. So no two devices have one context.
-pub record SaysSound (text : List ℕ) (gate : GateSettings) (devices : List DeviceSettings) (users : List UserRow)
-    (rows : Tables) : Type 0 where
-  pub says : Says text gate devices users rows
+-- The text says this of a gateway, and none of the rows is at fault. So no two devices have one context, and
+-- notifications can be sent to each receiver.
+pub record SaysSound (text : List ℕ) (gate : GateSettings) (devices : List DeviceSettings)
+    (receivers : List ReceiverSettings) (users : List UserRow) (rows : Tables) : Type 0 where
+  pub says : Says text gate devices receivers users rows
   pub sound_users : user_rows.AreSound users
   pub sound_rows : access_rows.AreSound rows
+  pub sound_receivers : AreReceivers users receivers
 
 -- The text says this of a gateway, and its rows load, as these users and these tables.
-pub record Loads (text : List ℕ) (gate : GateSettings) (devices : List DeviceSettings) (loaded : List AUser)
-    (tables : Tables) : Type 0 where
+pub record Loads (text : List ℕ) (gate : GateSettings) (devices : List DeviceSettings)
+    (receivers : List ReceiverSettings) (loaded : List AUser) (tables : Tables) : Type 0 where
   pub users : List UserRow
   pub rows : Tables
-  pub sound : SaysSound text gate devices users rows
+  pub sound : SaysSound text gate devices receivers users rows
   pub same_users : loaded ≡ map user_rows.user_of users
   pub same_rows : HaveSameRows rows tables
 
@@ -80,23 +87,41 @@ abbrev pub TellsDeviceAt : Members → ℕ → GateKeyFault → Type 0
 TellsDeviceAt document position fault = (row : Members)
     × (get_item position (devices_of document) ≡ Some (table row)) × TellsKey tables.Device row fault
 
+-- The key at fault is in the receiver at this position.
+abbrev pub TellsReceiverAt : Members → ℕ → GateKeyFault → Type 0
+TellsReceiverAt document position fault = (row : Members)
+    × (get_item position (receivers_of document) ≡ Some (table row)) × TellsKey tables.Receiver row fault
+
 -- a device whose context an earlier one has, the first such, and no user is at fault
 pub record IsDuplicateAt (document : Members) (position : ℕ) : Type 0 where
   pub gate : GateSettings
   pub devices : List DeviceSettings
+  pub receivers : List ReceiverSettings
   pub users : List UserRow
   pub rows : Tables
-  pub stands : StandsFor document gate devices users rows
+  pub stands : StandsFor document gate devices receivers users rows
   pub sound_users : user_rows.AreSound users
   pub duplicate : access_rows.IsTold rows (vacm_faults.Duplicate Contexts position)
+
+-- a receiver to which notifications can't be sent, the first such, and no row of users and access is at fault
+pub record IsUnfitAt (document : Members) (position : ℕ) (fault : ReceiverFault) : Type 0 where
+  pub gate : GateSettings
+  pub devices : List DeviceSettings
+  pub receivers : List ReceiverSettings
+  pub users : List UserRow
+  pub rows : Tables
+  pub stands : StandsFor document gate devices receivers users rows
+  pub sound_users : user_rows.AreSound users
+  pub sound_rows : access_rows.AreSound rows
+  pub first : IsFirstUnfit users receivers position fault
 
 -- What a refusal of the rows that other configurations have too says of the document.
 abbrev pub RefusesRows : Members → ConfigFault → Type 0
 RefusesRows document (config_faults.BadKey of position fault) = IsBadRowAt document of position
     × TellsKeyAt document of position fault
 RefusesRows document (config_faults.Row of position wrong) = (gate : GateSettings) × (devices : List DeviceSettings)
-    × (users : List UserRow) × (rows : Tables) × StandsFor document gate devices users rows × IsWritten of
-    × TellsRow users rows of position wrong
+    × (receivers : List ReceiverSettings) × (users : List UserRow) × (rows : Tables)
+    × StandsFor document gate devices receivers users rows × IsWritten of × TellsRow users rows of position wrong
 RefusesRows document config_faults.OutOfMemory = ⊤
 RefusesRows document _ = ⊥
 
@@ -107,6 +132,9 @@ RefusesDocument document (faults.Gate fault) = IsBadGate document × TellsKey ta
 RefusesDocument document (faults.Device position fault) = IsBadDeviceAt document position
     × TellsDeviceAt document position fault
 RefusesDocument document (faults.Duplicate position) = IsDuplicateAt document position
+RefusesDocument document (faults.Receiver position fault) = IsBadReceiverAt document position
+    × TellsReceiverAt document position fault
+RefusesDocument document (faults.Unfit position fault) = IsUnfitAt document position fault
 RefusesDocument document (faults.Config fault) = RefusesRows document fault
 
 -- What a refusal says of the text: the first cause, or that memory ran out.
@@ -146,6 +174,12 @@ TellsNoAddresses row key (table_faults.Key fault) = (fault ≡ key_fault (value_
     × ((addresses : List SocketAddr) → ¬ AreAddresses (at row key) addresses)
 TellsNoAddresses row key table_faults.OutOfMemory = ⊤
 
+-- What is told of a key that is there, and at which there are no addresses.
+abbrev pub TellsNoAddressesIfAny : Members → GateKey → GateTableFault → Type 0
+TellsNoAddressesIfAny row key (table_faults.Key fault) = (fault ≡ key_fault (value_fault (at row key) key))
+    × ((addresses : List SocketAddr) → ¬ AreAddressesIfAny (at row key) addresses)
+TellsNoAddressesIfAny row key table_faults.OutOfMemory = ⊤
+
 -- What is told of [gate] where it says nothing.
 abbrev pub TellsNoGate : Members → GateFault → Type 0
 TellsNoGate document (faults.Gate fault) = TellsKey tables.Gate (gate_of document) fault
@@ -159,6 +193,13 @@ TellsNoDevices document (faults.Device position fault) = IsFirstBad IsDevice (de
     × TellsDeviceAt document position fault
 TellsNoDevices document (faults.Config config_faults.OutOfMemory) = ⊤
 TellsNoDevices document _ = ⊥
+
+-- What is told of the receivers where one says nothing.
+abbrev pub TellsNoReceivers : Members → GateFault → Type 0
+TellsNoReceivers document (faults.Receiver position fault) = IsFirstBad IsReceiver (receivers_of document) position
+    × TellsReceiverAt document position fault
+TellsNoReceivers document (faults.Config config_faults.OutOfMemory) = ⊤
+TellsNoReceivers document _ = ⊥
 
 -- What is told of the rows of users and access where one stands for none.
 abbrev pub TellsNoRows : Members → ConfigFault → Type 0
@@ -181,7 +222,17 @@ abbrev pub device_refusal : ℕ → GateTableFault → GateFault
 device_refusal position (table_faults.Key fault) = faults.Device position fault
 device_refusal position table_faults.OutOfMemory = faults.Config config_faults.OutOfMemory
 
+-- a fault of the receiver at this position
+abbrev pub receiver_refusal : ℕ → GateTableFault → GateFault
+receiver_refusal position (table_faults.Key fault) = faults.Receiver position fault
+receiver_refusal position table_faults.OutOfMemory = faults.Config config_faults.OutOfMemory
+
 -- ---- the line that is printed, without its line feed
+
+abbrev pub unfit_word : ReceiverFault → List ℕ
+unfit_word receiver_faults.UnknownUser = codes "UnknownUser"
+unfit_word receiver_faults.UnsupportedLevel = codes "UnsupportedLevel"
+unfit_word receiver_faults.Duplicate = codes "Duplicate"
 
 abbrev pub refusal_line : GateFault → List ℕ
 refusal_line (faults.Top key) = codes "refused config top"
@@ -190,4 +241,8 @@ refusal_line (faults.Device position fault) = codes "refused config device "
     ++ (decimal position ++ codes " BadKey")
 refusal_line (faults.Duplicate position) = codes "refused config device "
     ++ (decimal position ++ codes " Duplicate")
+refusal_line (faults.Receiver position fault) = codes "refused config receiver "
+    ++ (decimal position ++ codes " BadKey")
+refusal_line (faults.Unfit position fault) = codes "refused config receiver "
+    ++ (decimal position ++ (codes " " ++ unfit_word fault))
 refusal_line (faults.Config fault) = config.refusal_line fault

@@ -1,16 +1,17 @@
--- What the tables [gate] and [[device]] say.
+-- What the tables [gate], [[device]] and [[receiver]] say.
 --
--- `IsGate`, `IsDevice`: a table of TOML and what it says, key by key, with no key that isn't listed. `context_row`: the
--- context that a device is. `HaveOwnContexts`: no two devices have one. `gate_values`, `device_values`: what is said,
--- whatever memory it is in.
+-- `IsGate`, `IsDevice`, `IsReceiver`: a table of TOML and what it says, key by key, with no key that isn't listed.
+-- `context_row`: the context that a device is. `HaveOwnContexts`: no two devices have one. `gate_values`,
+-- `device_values`: what is said, whatever memory it is in.
 use Rattle.std.specs.Prelude.{◌≢◌, ℕ, Bool, List, AllPairs, Option, option_map, string_bytes}
 use Rattle.std.specs.declared.net.socket_addr.SocketAddr.{SocketAddr}
 use Rattle.toml.specs.Data.{Members}
 use Rattle.vacm_core.specs.declared.rows.ContextRow.{ContextRow}
-use Rattle.snmpsec_config.specs.Values.{IsName}
+use Rattle.snmpsec_config.specs.Values.{IsName, IsLevel}
 use Rattle.snmpsec_gate_config.specs.Keys.{at, HasOnlyListed}
 use Rattle.snmpsec_gate_config.specs.Values.{IsEngineId, IsPath, IsAddress, AreAddresses, IsCommunity}
-use Rattle.snmpsec_gate_config.specs.Values.{IsCommunityIfAny, IsLimit, IsFlagOrFalse}
+use Rattle.snmpsec_gate_config.specs.Values.{AreAddressesIfAny, IsCommunityIfAny, IsLimit, IsFlagOrFalse}
+use Rattle.snmpsec_gate_config.specs.Values.{IsTrapKindIfAny}
 use Rattle.snmpsec_gate_config.specs.declared.table.GateTable.TheVariants as tables
 use Rattle.snmpsec_gate_config.specs.declared.table.GateKey.TheVariants as keys
 use Rattle.snmpsec_gate_config.specs.declared.table.LimitKey.TheVariants as limits
@@ -18,6 +19,7 @@ use Rattle.snmpsec_gate_config.specs.declared.settings.GatewayLimits.{GatewayLim
 use Rattle.snmpsec_gate_config.specs.declared.settings.GateSettings.{GateSettings}
 use Rattle.snmpsec_gate_config.specs.declared.settings.DeviceLimits.{DeviceLimits}
 use Rattle.snmpsec_gate_config.specs.declared.settings.DeviceSettings.{DeviceSettings}
+use Rattle.snmpsec_gate_config.specs.declared.settings.ReceiverSettings.{ReceiverSettings}
 
 -- the limits of a gateway
 pub record AreGateLimits (t : Members) (own : GatewayLimits) : Type 0 where
@@ -34,6 +36,7 @@ pub record IsGate (t : Members) (gate : GateSettings) : Type 0 where
   pub engine : IsEngineId (at t keys.Engine) gate.engine
   pub boots : IsPath (at t keys.Boots) (string_bytes gate.boots)
   pub listen : AreAddresses (at t keys.Listen) gate.listen.items
+  pub traps : AreAddressesIfAny (at t keys.Traps) gate.traps.items
   pub limits : AreGateLimits t gate.limits
   pub long_answers : IsFlagOrFalse (at t keys.LongAnswers) gate.long_answers
   pub report_unreachable : IsFlagOrFalse (at t keys.ReportUnreachable) gate.report_unreachable
@@ -54,6 +57,14 @@ pub record IsDevice (t : Members) (device : DeviceSettings) : Type 0 where
       (option_map (λ community. community.items) device.write_community)
   pub limits : AreDeviceLimits t device.limits
 
+-- a table of [[receiver]]
+pub record IsReceiver (t : Members) (receiver : ReceiverSettings) : Type 0 where
+  pub only : HasOnlyListed tables.Receiver t
+  pub address : IsAddress (at t keys.Address) receiver.address
+  pub user : IsName (at t keys.User) receiver.user
+  pub level : IsLevel (at t keys.Level) receiver.level
+  pub kind : IsTrapKindIfAny (at t keys.Kind)
+
 -- the row of vacmContextTable that a device is (RFC 3415, section 4)
 abbrev pub context_row : DeviceSettings → ContextRow
 context_row device = record { name = device.context }
@@ -68,6 +79,7 @@ pub record GateValues : Type 0 where
   pub engine : List ℕ
   pub boots : List ℕ
   pub listen : List SocketAddr
+  pub traps : List SocketAddr
   pub waiting : ℕ
   pub rounds : ℕ
   pub again : ℕ
@@ -82,6 +94,7 @@ gate_values gate = record {
   engine = gate.engine;
   boots = string_bytes gate.boots;
   listen = gate.listen.items;
+  traps = gate.traps.items;
   waiting = gate.limits.waiting;
   rounds = gate.limits.rounds;
   again = gate.limits.again;

@@ -1,10 +1,10 @@
 -- Which values are allowed at a key, and what they say. None is for an absent key.
 --
 -- `IsEngineId`, `IsPath`, `IsAddress`, `AreAddresses`, `IsCommunity`, `IsLimit`, `IsFlagOrFalse`: a value and what it
--- says. `IsRightAt`: what is there at a key is what is expected, or it is left out and may be (`MayMiss`).
--- `IsFirstWrong`: the first listed key at which a row isn't right.
+-- says. `IsTrapKind`: the kind of notification that may be written. `IsRightAt`: what is there at a key is what is
+-- expected, or it is left out and may be (`MayMiss`). `IsFirstWrong`: the first listed key at which a row isn't right.
 use Rattle.std.specs.Prelude.{◌≡◌, ◌≢◌, ⊤, ◌⊎◌, ℕ, pos, ◌≤◌, ◌<◌, Bool, false, List, [], ◌∷◌, length, slice_index}
-use Rattle.std.specs.Prelude.{EachIndex, Option, Some, None, is_none, Ok}
+use Rattle.std.specs.Prelude.{codes, EachIndex, Option, Some, None, is_none, Ok}
 use Rattle.std.specs.Net.Grammar.{IsSocketText}
 use Rattle.std.specs.Net.Socket.{socket_port}
 use Rattle.std.specs.declared.net.socket_addr.SocketAddr.{SocketAddr}
@@ -12,7 +12,8 @@ use Rattle.hex.specs.Hex.{decode_of}
 use Rattle.toml.specs.Data.{Data, Members, integer, array, Items, no_items, item}
 use Rattle.engine_clock.specs.Engines.{IsEngine}
 use Rattle.snmpsec_config.specs.Keys.{FirstKey}
-use Rattle.snmpsec_config.specs.Values.{IsText, IsName, IsFlag}
+use Rattle.snmp_ber.specs.declared.level.Level.{Level}
+use Rattle.snmpsec_config.specs.Values.{IsText, IsName, IsLevel, IsFlag}
 use Rattle.snmpsec_gate_config.specs.Keys.{at, listed}
 use Rattle.snmpsec_gate_config.specs.Limits.{limit_of}
 use Rattle.snmpsec_gate_config.specs.declared.table.GateTable.{GateTable}
@@ -46,6 +47,10 @@ abbrev pub AreAddresses : Option Data → List SocketAddr → Type 0
 AreAddresses value addresses = (values : Items) × (value ≡ Some (array values)) × AreAddressesIn values addresses
     × (0 < length addresses)
 
+-- an array of at least one address, or none where the key is absent
+abbrev pub AreAddressesIfAny : Option Data → List SocketAddr → Type 0
+AreAddressesIfAny value addresses = AreAddresses value addresses ⊎ ((value ≡ None) × (addresses ≡ []))
+
 -- a community of at most 255 octets
 abbrev pub IsCommunity : Option Data → List ℕ → Type 0
 IsCommunity value community = IsText value community × (length community ≤ 255)
@@ -69,6 +74,14 @@ IsLimit key value n = IsNumber key value n ⊎ ((value ≡ None) × (n ≡ (limi
 abbrev pub IsFlagOrFalse : Option Data → Bool → Type 0
 IsFlagOrFalse value flag = IsFlag value flag ⊎ ((value ≡ None) × (flag ≡ false))
 
+-- the kind of notification, a Trap (RFC 3416, section 4.2.6)
+abbrev pub IsTrapKind : Option Data → Type 0
+IsTrapKind value = IsText value (codes "trap")
+
+-- that kind, or nothing where the key is absent
+abbrev pub IsTrapKindIfAny : Option Data → Type 0
+IsTrapKindIfAny value = IsTrapKind value ⊎ (value ≡ None)
+
 -- ---- what is expected at a key
 
 -- The value is what is expected at the key.
@@ -76,12 +89,16 @@ abbrev pub Allows : GateKey → Option Data → Type 0
 Allows keys.Engine value = (engine : List ℕ) × IsEngineId value engine
 Allows keys.Boots value = (path : List ℕ) × IsPath value path
 Allows keys.Listen value = (addresses : List SocketAddr) × AreAddresses value addresses
+Allows keys.Traps value = (addresses : List SocketAddr) × AreAddresses value addresses
 Allows keys.LongAnswers value = (flag : Bool) × IsFlag value flag
 Allows keys.ReportUnreachable value = (flag : Bool) × IsFlag value flag
 Allows keys.Context value = (name : List ℕ) × IsName value name
 Allows keys.Address value = (address : SocketAddr) × IsAddress value address
 Allows keys.Community value = (community : List ℕ) × IsCommunity value community
 Allows keys.WriteCommunity value = (community : List ℕ) × IsCommunity value community
+Allows keys.User value = (name : List ℕ) × IsName value name
+Allows keys.Level value = (level : Level) × IsLevel value level
+Allows keys.Kind value = IsTrapKind value
 Allows (keys.Limit key) value = (n : ℕ) × IsNumber key value n
 
 -- The key may be left out.
@@ -89,12 +106,16 @@ abbrev pub MayMiss : GateKey → Type 0
 MayMiss keys.Engine = ⊥
 MayMiss keys.Boots = ⊥
 MayMiss keys.Listen = ⊥
+MayMiss keys.Traps = ⊤
 MayMiss keys.LongAnswers = ⊤
 MayMiss keys.ReportUnreachable = ⊤
 MayMiss keys.Context = ⊥
 MayMiss keys.Address = ⊥
 MayMiss keys.Community = ⊥
 MayMiss keys.WriteCommunity = ⊤
+MayMiss keys.User = ⊥
+MayMiss keys.Level = ⊥
+MayMiss keys.Kind = ⊤
 MayMiss (keys.Limit key) = ⊤
 
 -- What is there at the key is what is expected, or it is left out and may be.

@@ -7,15 +7,18 @@ ghost use Rattle.vacm_core.specs.Tables.{tables_of};
 ghost use Rattle.snmpsec_config.specs.Rows.{AreRows};
 ghost use Rattle.snmpsec_config.specs.Documents.{AreTables};
 ghost use Rattle.snmpsec_gate_config.specs.Documents.{IsTop, IsBadTop, IsTopMember, IsArrayName, StandsFor};
-ghost use Rattle.snmpsec_gate_config.specs.Documents.{gate_of, devices_of, AreConfigRows};
+ghost use Rattle.snmpsec_gate_config.specs.Documents.{gate_of, devices_of, receivers_of, AreConfigRows};
 ghost use Rattle.snmpsec_gate_config.specs.Refusals.{Says, SaysSound, Loads, Refuses, RefusesDocument, TellsNoGate};
-ghost use Rattle.snmpsec_gate_config.specs.Refusals.{TellsNoDevices, TellsNoRows, device_refusal};
-ghost use Rattle.snmpsec_gate_config.specs.Rows.{IsGate, IsDevice, HaveOwnContexts, context_row};
+ghost use Rattle.snmpsec_gate_config.specs.Refusals.{TellsNoDevices, TellsNoReceivers, TellsNoRows};
+ghost use Rattle.snmpsec_gate_config.specs.Refusals.{device_refusal, receiver_refusal};
+ghost use Rattle.snmpsec_gate_config.specs.Receivers.{AreReceivers};
+ghost use Rattle.snmpsec_gate_config.specs.Rows.{IsGate, IsDevice, IsReceiver, HaveOwnContexts, context_row};
 
 use crate::device::read_device;
 use crate::fault::{GateFault, GateKeyFault, GateTableFault};
 use crate::gate::read_gate;
-use crate::settings::{DeviceSettings, GateSettings};
+use crate::receiver::{check_receivers, read_receiver};
+use crate::settings::{DeviceSettings, GateSettings, ReceiverSettings};
 use crate::table::GateKey;
 use snmpsec_config::{
     ConfigFault, ConfigRows, document_of, is_array_of_tables, read_rows, values_at,
@@ -31,6 +34,7 @@ use vacm_core::{ContextRow, Rows, Vacm};
 pub struct GateRows {
     pub gate: GateSettings,
     pub devices: Vec<DeviceSettings>,
+    pub receivers: Vec<ReceiverSettings>,
     pub rows: ConfigRows,
 }
 
@@ -41,6 +45,9 @@ pub struct GateConfig {
     pub gate: GateSettings,
     /// The devices behind it. No two have one context.
     pub devices: Vec<DeviceSettings>,
+    /// Who is sent notifications of the devices. Each has a user that supports its level, and no two have one address
+    /// and user.
+    pub receivers: Vec<ReceiverSettings>,
     /// The users, with the keys of their passwords.
     pub users: Users,
     /// Who may see what.
@@ -50,12 +57,13 @@ pub struct GateConfig {
 impl GateConfig {
     /// Reads a gateway's configuration.
     ///
-    /// The error is the first of these: the text is nested too deep; it isn't TOML; its top is wrong; [gate], or a
-    /// device, can't be read; a row can't be read, the tables in their order and the rows of each from 0; a user is at
-    /// fault; two devices have one context; another row of view-based access is at fault.
+    /// The error is the first of these: the text is nested too deep; it isn't TOML; its top is wrong; [gate], a device,
+    /// or a receiver can't be read; a row can't be read, the tables in their order and the rows of each from 0; a user
+    /// is at fault; two devices have one context; another row of view-based access is at fault; notifications can't be
+    /// sent to a receiver.
     pub fn read(alloc: Global, text: &[u8]) -> Result<GateConfig, GateFault>
         ensures loads { IfOk result (λ config. Loads text.now config.gate config.devices.items
-            config.users.users config.access) }
+            config.receivers.items config.users.users config.access) }
 
         // So a contextName names one device.
         ensures own_contexts { IfOk result (λ config. HaveOwnContexts config.devices.items) }
@@ -64,13 +72,16 @@ impl GateConfig {
         let GateRows {
             gate,
             devices,
+            receivers,
             rows,
         } = rows_of_text(alloc, text)?;
         let users = Users::load(alloc, &rows.users)?;
         let access = Vacm::load(alloc, &rows.access)?;
+        check_receivers(&rows.users, &receivers)?;
         Ok(GateConfig {
             gate,
             devices,
+            receivers,
             users,
             access,
         })
@@ -81,12 +92,13 @@ impl GateRows {
     /// Reads a gateway's configuration. It refuses what `GateConfig::read` refuses, and makes no key of a password.
     pub fn read(alloc: Global, text: &[u8]) -> Result<GateRows, GateFault>
         ensures says { IfOk result (λ said. SaysSound text.now said.gate said.devices.items
-            said.rows.users.items (tables_of said.rows.access)) }
+            said.receivers.items said.rows.users.items (tables_of said.rows.access)) }
         ensures refuses { IfErr result (Refuses text.now) }
     {
         let said = rows_of_text(alloc, text)?;
         Users::check(alloc, &said.rows.users)?;
         Vacm::load(alloc, &said.rows.access)?;
+        check_receivers(&said.rows.users, &said.receivers)?;
         Ok(said)
     }
 }
@@ -94,7 +106,7 @@ impl GateRows {
 /// What a text says.
 fn rows_of_text(alloc: Global, text: &[u8]) -> Result<GateRows, GateFault>
     ensures says { IfOk result (λ said. Says text.now said.gate said.devices.items
-        said.rows.users.items (tables_of said.rows.access)) }
+        said.receivers.items said.rows.users.items (tables_of said.rows.access)) }
     ensures refuses { IfErr result (Refuses text.now) }
 {
     let document = document_of(alloc, text)?;
@@ -104,7 +116,7 @@ fn rows_of_text(alloc: Global, text: &[u8]) -> Result<GateRows, GateFault>
 /// What a document says.
 fn rows_of(alloc: Global, document: &Table) -> Result<GateRows, GateFault>
     ensures stands { IfOk result (λ said. StandsFor (table_view document.now) said.gate said.devices.items
-        said.rows.users.items (tables_of said.rows.access)) }
+        said.receivers.items said.rows.users.items (tables_of said.rows.access)) }
     ensures refuses { IfErr result (RefusesDocument (table_view document.now)) }
 {
     if let Some(key) = bad_top(document) {
@@ -114,11 +126,13 @@ fn rows_of(alloc: Global, document: &Table) -> Result<GateRows, GateFault>
     }
     let gate = gate_of(alloc, document)?;
     let devices = devices_of(alloc, document)?;
+    let receivers = receivers_of(alloc, document)?;
     let contexts = context_rows(alloc, &devices)?;
     let rows = config_rows(alloc, document, contexts)?;
     Ok(GateRows {
         gate,
         devices,
+        receivers,
         rows,
     })
 }
@@ -127,7 +141,10 @@ fn rows_of(alloc: Global, document: &Table) -> Result<GateRows, GateFault>
 fn is_array_name(key: &str) -> bool
     ensures { MatchBool result (IsArrayName key.now) (¬ IsArrayName key.now) }
 {
-    matches!(key, "device" | "user" | "group" | "access" | "family")
+    matches!(
+        key,
+        "device" | "receiver" | "user" | "group" | "access" | "family"
+    )
 }
 
 /// Whether a key has its place at the top, and its value.
@@ -212,6 +229,37 @@ fn devices_of(alloc: Global, document: &Table) -> Result<Vec<DeviceSettings>, Ga
         }
     }
     Ok(devices)
+}
+
+/// The refusal of the receiver at this position.
+fn refusal_of_receiver(position: usize, fault: GateTableFault) -> GateFault
+    ensures { result ≡ receiver_refusal position fault }
+{
+    match fault {
+        GateTableFault::Key(fault) => GateFault::Receiver { position, fault },
+        GateTableFault::OutOfMemory => AllocError.into(),
+    }
+}
+
+/// What is said of the receivers.
+fn receivers_of(alloc: Global, document: &Table) -> Result<Vec<ReceiverSettings>, GateFault>
+    requires tables { AreTables (receivers_of (table_view document.now)) }
+    ensures receivers { IfOk result
+        (λ receivers. AreRows IsReceiver (receivers_of (table_view document.now)) receivers.items) }
+    ensures fault { IfErr result (TellsNoReceivers (table_view document.now)) }
+{
+    let values = values_at(document, "receiver");
+    let mut receivers = Vec::new(alloc);
+    for (position, value) in values.iter().enumerate() {
+        let Some(row) = value.as_table() else {
+            unreachable!();
+        };
+        match read_receiver(alloc, row) {
+            Ok(receiver) => receivers.push(receiver)?,
+            Err(fault) => return Err(refusal_of_receiver(position, fault)),
+        }
+    }
+    Ok(receivers)
 }
 
 /// The rows of vacmContextTable that devices are.

@@ -5,13 +5,15 @@ ghost use Rattle.std.specs.Prelude.{string_bytes};
 ghost use Rattle.snmpsec_config.specs.Shown.{shown_key};
 ghost use Rattle.snmpsec_config.specs.declared.fault.ConfigFault.TheVariants as config_faults;
 ghost use Rattle.snmpsec_gate_config.specs.Keys.{listed};
-ghost use Rattle.snmpsec_gate_config.specs.Refusals.{key_fault, user_fault, access_fault, refusal_line};
+ghost use Rattle.snmpsec_gate_config.specs.Refusals.{key_fault, user_fault, access_fault, refusal_line, unfit_word};
 ghost use Rattle.snmpsec_gate_config.specs.Told.{wanted_words, near_words, top_words, IsKeyWords, IsWhy};
+ghost use Rattle.snmpsec_gate_config.specs.Told.{receiver_words, unfit_words};
 ghost use Rattle.snmpsec_gate_config.specs.declared.fault.GateTableFault.TheVariants as table_faults;
 ghost use Rattle.snmpsec_gate_config.specs.declared.fault.GateFault.TheVariants as faults;
 ghost use Rattle.snmpsec_gate_config.specs.declared.table.GateKey.{GateKey as AKey};
 
 use crate::near::nearest;
+use crate::receiver::{ReceiverFault, UnfitReceiver};
 use crate::table::{GateKey, GateTable};
 use crate::values::GateValueFault;
 use snmpsec_config::{ConfigFault, shown_key};
@@ -20,7 +22,7 @@ use std::fmt;
 use usm_core::UserFault;
 use vacm_core::{Table, VacmFault};
 
-/// What is wrong with the keys of [gate] or of a device.
+/// What is wrong with the keys of [gate], of a device or of a receiver.
 #[derive(Debug, PartialEq, Eq, Drop)]
 pub enum GateKeyFault {
     /// The table doesn't list this key.
@@ -31,7 +33,7 @@ pub enum GateKeyFault {
     Value { key: GateKey },
 }
 
-/// Why [gate] or a device isn't read.
+/// Why [gate], a device or a receiver isn't read.
 #[derive(Debug, Drop)]
 pub enum GateTableFault {
     Key(GateKeyFault),
@@ -87,6 +89,16 @@ pub enum GateFault {
     Duplicate {
         position: usize,
     },
+    /// A receiver can't be read.
+    Receiver {
+        position: usize,
+        fault: GateKeyFault,
+    },
+    /// Notifications can't be sent to a receiver.
+    Unfit {
+        position: usize,
+        fault: ReceiverFault,
+    },
     /// The text is nested too deep or isn't TOML; or a row of users, groups, access or view families is at fault; or
     /// memory ran out.
     Config {
@@ -104,8 +116,13 @@ fn wanted_words(alloc: Global, key: GateKey) -> Result<String, AllocError>
         GateKey::Listen => format!(in alloc;
             "an array of at least one address with its port, as [\"192.0.2.1:161\"]"
         ),
+        GateKey::Traps => format!(in alloc;
+            "an array of at least one address with its port, as [\"192.0.2.1:162\"]"
+        ),
         GateKey::LongAnswers | GateKey::ReportUnreachable => format!(in alloc; "true or false"),
-        GateKey::Context => format!(in alloc; "a text of at most 32 octets"),
+        GateKey::Context | GateKey::User => format!(in alloc; "a text of at most 32 octets"),
+        GateKey::Level => format!(in alloc; "one of noAuthNoPriv, authNoPriv, authPriv"),
+        GateKey::Kind => format!(in alloc; "\"trap\", since only Traps can be sent yet"),
         GateKey::Address => format!(in alloc;
             "an IPv4 address and a port, as \"10.1.0.7:161\", or an IPv6 address in brackets and a port"
         ),
@@ -167,8 +184,21 @@ fn top_words(alloc: Global, key: &str) -> Result<String, AllocError>
 {
     let shown = shown_key(alloc, key)?;
     format!(in alloc;
-        "{shown}: at the top are the table gate and the arrays of tables device, user, group, access and family"
+        "{shown}: at the top are the table gate and the arrays of tables device, receiver, user, group, \
+         access and family"
     )
+}
+
+/// The words for a receiver to which notifications can't be sent.
+fn unfit_words(alloc: Global, position: usize, fault: ReceiverFault) -> Result<String, AllocError>
+    ensures { IfOk result (λ words. string_bytes words ≡ receiver_words position (unfit_words fault)) }
+{
+    let why = match fault {
+        ReceiverFault::UnknownUser => "no user has this name",
+        ReceiverFault::UnsupportedLevel => "its user has no passwords for this level",
+        ReceiverFault::Duplicate => "an earlier receiver has this address and user",
+    };
+    format!(in alloc; "receiver {position}: {why}")
 }
 
 impl GateFault {
@@ -201,7 +231,24 @@ impl GateFault {
             GateFault::Duplicate { position } => {
                 format!(in alloc; "device {position}: an earlier device has this context")
             }
+            GateFault::Receiver { position, fault } => {
+                let words = fault.words(alloc, GateTable::Receiver)?;
+                format!(in alloc; "receiver {position}: {words}")
+            }
+            GateFault::Unfit { position, fault } => unfit_words(alloc, *position, *fault),
             GateFault::Config { fault } => fault.why(alloc),
+        }
+    }
+}
+
+impl fmt::Display for ReceiverFault {
+    ghost output = { λ fault. Some (unfit_word fault) };
+
+    fn fmt<W: fmt::Write>(&self, f: &mut fmt::Formatter<W>) -> fmt::Result {
+        match self {
+            ReceiverFault::UnknownUser => f.write_str("UnknownUser"),
+            ReceiverFault::UnsupportedLevel => f.write_str("UnsupportedLevel"),
+            ReceiverFault::Duplicate => f.write_str("Duplicate"),
         }
     }
 }
@@ -220,7 +267,25 @@ impl fmt::Display for GateFault {
             GateFault::Duplicate { position } => {
                 write!(f, "refused config device {position} Duplicate")
             }
+            GateFault::Receiver { position, .. } => write!(
+                f,
+                "refused config receiver {position} BadKey"
+            ),
+            GateFault::Unfit { position, fault } => {
+                write!(f, "refused config receiver {position} {fault}")
+            }
             GateFault::Config { fault } => write!(f, "{fault}"),
+        }
+    }
+}
+
+impl From<UnfitReceiver> for GateFault {
+    ghost from_gives = { λ unfit e. e ≡ faults.Unfit unfit.position unfit.fault };
+
+    fn from(unfit: UnfitReceiver) -> GateFault {
+        GateFault::Unfit {
+            position: unfit.position,
+            fault: unfit.fault,
         }
     }
 }

@@ -6,8 +6,8 @@ ghost use Rattle.std.specs.declared.net.socket_addr.SocketAddr.{SocketAddr as Ad
 ghost use Rattle.toml.specs.View.{table_view, items_view};
 ghost use Rattle.snmpsec_gate_config.specs.Keys.{at};
 ghost use Rattle.snmpsec_gate_config.specs.Rows.{IsGate, AreGateLimits};
-ghost use Rattle.snmpsec_gate_config.specs.Refusals.{TellsNoTable, TellsNoAddresses};
-ghost use Rattle.snmpsec_gate_config.specs.Values.{IsFirstFault, AreAddresses, AreAddressesIn};
+ghost use Rattle.snmpsec_gate_config.specs.Refusals.{TellsNoTable, TellsNoAddresses, TellsNoAddressesIfAny};
+ghost use Rattle.snmpsec_gate_config.specs.Values.{IsFirstFault, AreAddresses, AreAddressesIfAny, AreAddressesIn};
 ghost use Rattle.snmpsec_gate_config.specs.declared.table.GateTable.TheVariants as tables;
 ghost use Rattle.snmpsec_gate_config.specs.declared.table.GateKey.TheVariants as keys;
 ghost use Rattle.snmpsec_gate_config.specs.declared.table.LimitKey.TheVariants as limits;
@@ -16,7 +16,7 @@ use crate::fault::GateTableFault;
 use crate::listed::only_listed;
 use crate::settings::{GateSettings, GatewayLimits};
 use crate::table::{GateKey, GateTable, LimitKey};
-use crate::values::{GateValueFault, address_in, engine, fault, flag, limit, path, values};
+use crate::values::{GateValueFault, address_in, engine, fault, flag, limit, path, value, values};
 use std::alloc::{AllocError, Global};
 use std::net::SocketAddr;
 use toml::{Table, Value};
@@ -74,6 +74,21 @@ fn addresses(alloc: Global, row: &Table, key: GateKey) -> Result<Vec<SocketAddr>
     }
 }
 
+/// The addresses at a key, none where it is absent.
+fn addresses_if_any(
+    alloc: Global,
+    row: &Table,
+    key: GateKey,
+) -> Result<Vec<SocketAddr>, GateTableFault>
+    ensures ok { IfOk result (λ addresses. AreAddressesIfAny (at (table_view row.now) key) addresses.items) }
+    ensures fault { IfErr result (TellsNoAddressesIfAny (table_view row.now) key) }
+{
+    if value(row, key).is_none() {
+        return Ok(Vec::new(alloc));
+    }
+    addresses(alloc, row, key)
+}
+
 /// Reads [gate].
 pub(crate) fn read_gate(alloc: Global, row: &Table) -> Result<GateSettings, GateTableFault>
     ensures gate { IfOk result (IsGate (table_view row.now)) }
@@ -83,6 +98,7 @@ pub(crate) fn read_gate(alloc: Global, row: &Table) -> Result<GateSettings, Gate
     let engine = engine(row, GateKey::Engine)?;
     let path = path(row, GateKey::Boots)?;
     let listen = addresses(alloc, row, GateKey::Listen)?;
+    let traps = addresses_if_any(alloc, row, GateKey::Traps)?;
     let limits = gate_limits(row)?;
     let long_answers = flag(row, GateKey::LongAnswers)?;
     let report_unreachable = flag(row, GateKey::ReportUnreachable)?;
@@ -91,6 +107,7 @@ pub(crate) fn read_gate(alloc: Global, row: &Table) -> Result<GateSettings, Gate
         engine,
         boots,
         listen,
+        traps,
         limits,
         long_answers,
         report_unreachable,

@@ -1,4 +1,5 @@
-//! The configuration of a gateway: the gateway, the devices behind it, and who may see what on which device.
+//! The configuration of a gateway: the gateway, the devices behind it, who may see what on which device, and who is
+//! sent notifications of them.
 //!
 //! ```
 //! use snmpsec_gate_config::GateConfig;
@@ -31,6 +32,7 @@ mod limit;
 mod listed;
 mod near;
 mod oddity;
+mod receiver;
 mod settings;
 mod table;
 mod values;
@@ -40,5 +42,6 @@ pub use fault::{GateFault, GateKeyFault};
 pub use laws::one_gateway;
 pub use limit::Limit;
 pub use oddity::DeviceOddity;
-pub use settings::{DeviceLimits, DeviceSettings, GateSettings, GatewayLimits};
+pub use receiver::ReceiverFault;
+pub use settings::{DeviceLimits, DeviceSettings, GateSettings, GatewayLimits, ReceiverSettings};
 pub use table::{GateKey, GateTable, LimitKey};

@@ -1,6 +1,7 @@
-//! What a gateway's configuration says of the gateway and of the devices behind it.
+//! What a gateway's configuration says of the gateway, of the devices behind it, and of who is sent notifications.
 
 use engine_clock::EngineId;
+use snmp_ber::Level;
 use std::net::SocketAddr;
 use vacm_core::Name;
 
@@ -30,6 +31,8 @@ pub struct GateSettings {
     pub boots: String,
     /// The addresses at which it takes requests, at least one.
     pub listen: Vec<SocketAddr>,
+    /// The addresses at which it takes Traps of the devices. None: it takes none.
+    pub traps: Vec<SocketAddr>,
     pub limits: GatewayLimits,
     /// Whether a Response without authentication may be as long as the manager allows.
     pub long_answers: bool,
@@ -60,4 +63,15 @@ pub struct DeviceSettings {
     /// The community with which it is asked for a Set. None: it isn't asked for any.
     pub write_community: Option<Vec<u8>>,
     pub limits: DeviceLimits,
+}
+
+/// What is said of a receiver of notifications.
+#[derive(Drop)]
+pub struct ReceiverSettings {
+    /// Where it takes them.
+    pub address: SocketAddr,
+    /// The name of the user for whom they are sealed.
+    pub user: Name,
+    /// The level at which they are sealed.
+    pub level: Level,
 }

@@ -12,6 +12,8 @@ pub enum GateTable {
     Gate,
     /// The devices behind it, `[[device]]`.
     Device,
+    /// Who is sent notifications of the devices, `[[receiver]]`.
+    Receiver,
 }
 
 impl GateTable {
@@ -22,6 +24,7 @@ impl GateTable {
         match self {
             GateTable::Gate => "gate",
             GateTable::Device => "device",
+            GateTable::Receiver => "receiver",
         }
     }
 
@@ -34,6 +37,7 @@ impl GateTable {
                 GateKey::Engine,
                 GateKey::Boots,
                 GateKey::Listen,
+                GateKey::Traps,
                 GateKey::Limit(LimitKey::Waiting),
                 GateKey::Limit(LimitKey::Rounds),
                 GateKey::Limit(LimitKey::Again),
@@ -51,6 +55,12 @@ impl GateTable {
                 GateKey::Limit(LimitKey::Repetitions),
                 GateKey::Limit(LimitKey::MaxSize),
                 GateKey::Limit(LimitKey::AtOnce),
+            ],
+            GateTable::Receiver => &[
+                GateKey::Address,
+                GateKey::User,
+                GateKey::Level,
+                GateKey::Kind,
             ],
         }
     }
@@ -119,12 +129,16 @@ pub enum GateKey {
     Engine,
     Boots,
     Listen,
+    Traps,
     LongAnswers,
     ReportUnreachable,
     Context,
     Address,
     Community,
     WriteCommunity,
+    User,
+    Level,
+    Kind,
     Limit(LimitKey),
 }
 
@@ -137,12 +151,16 @@ impl GateKey {
             GateKey::Engine => "engine",
             GateKey::Boots => "boots",
             GateKey::Listen => "listen",
+            GateKey::Traps => "traps",
             GateKey::LongAnswers => "long-answers",
             GateKey::ReportUnreachable => "report-unreachable",
             GateKey::Context => "context",
             GateKey::Address => "address",
             GateKey::Community => "community",
             GateKey::WriteCommunity => "write-community",
+            GateKey::User => "user",
+            GateKey::Level => "level",
+            GateKey::Kind => "kind",
             GateKey::Limit(key) => key.name(),
         }
     }

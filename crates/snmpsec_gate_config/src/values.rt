@@ -1,6 +1,6 @@
-//! The values at the keys of [gate] and of a device.
+//! The values at the keys of [gate], of a device and of a receiver.
 
-ghost use Rattle.std.specs.Prelude.{◌≡◌, ◌≢◌, ◌<◌, ℕ, List, slice_index, EachIndex, Ok, Bool, IfOk, IfErr};
+ghost use Rattle.std.specs.Prelude.{◌≡◌, ◌≢◌, ◌<◌, ℕ, List, slice_index, EachIndex, Ok, Bool, IfOk, IfErr, OnOk};
 ghost use Rattle.std.specs.Prelude.{Option, Some, MatchOption, MatchBool, option_map};
 ghost use Rattle.std.specs.Net.Grammar.{IsSocketText};
 ghost use Rattle.std.specs.Net.Socket.{socket_port};
@@ -9,14 +9,18 @@ ghost use Rattle.hex.specs.Hex.{decode_of};
 ghost use Rattle.engine_clock.specs.Engines.{IsEngine};
 ghost use Rattle.toml.specs.Data.{array, Items};
 ghost use Rattle.toml.specs.View.{view, table_view, items_view};
-ghost use Rattle.snmpsec_config.specs.Values.{IsText, IsName};
+ghost use Rattle.snmp_ber.specs.declared.level.Level.{Level as ALevel};
+ghost use Rattle.snmpsec_config.specs.Values.{IsText, IsName, IsLevel};
 ghost use Rattle.snmpsec_gate_config.specs.Keys.{at};
 ghost use Rattle.snmpsec_gate_config.specs.Values.{IsEngineId, IsPath, IsAddress, IsCommunity, IsCommunityIfAny};
+ghost use Rattle.snmpsec_gate_config.specs.Values.{IsTrapKindIfAny};
 ghost use Rattle.snmpsec_gate_config.specs.Values.{IsNumber, IsLimit, IsFlagOrFalse, value_fault};
 ghost use Rattle.snmpsec_gate_config.specs.declared.table.GateKey.TheVariants as keys;
 
 use crate::table::{GateKey, LimitKey};
 use engine_clock::EngineId;
+use snmp_ber::Level;
+use snmpsec_config::level_of;
 use std::net::SocketAddr;
 use toml::{Table, Value};
 use vacm_core::Name;
@@ -204,6 +208,38 @@ pub(crate) fn community_if_any<'a>(
     match community(row, key) {
         Ok(community) => Ok(Some(community)),
         Err(fault) => Err(fault),
+    }
+}
+
+/// The level at a key.
+pub(crate) fn level(row: &Table, key: GateKey) -> Result<Level, GateValueFault>
+    ensures ok { IfOk result (IsLevel (at (table_view row.now) key)) }
+    ensures fault { IfErr result
+        (λ f. (f ≡ value_fault (at (table_view row.now) key) key)
+        × ((level : ALevel) → ¬ IsLevel (at (table_view row.now) key) level)) }
+{
+    let Some(word) = text(row, key) else {
+        return Err(fault(row, key));
+    };
+    match level_of(word) {
+        Some(level) => Ok(level),
+        None => Err(fault(row, key)),
+    }
+}
+
+/// Refuses any kind of notification at a key but Traps.
+pub(crate) fn trap_kind_if_any(row: &Table, key: GateKey) -> Result<(), GateValueFault>
+    ensures ok { OnOk result (IsTrapKindIfAny (at (table_view row.now) key)) }
+    ensures fault { IfErr result
+        (λ f. (f ≡ value_fault (at (table_view row.now) key) key)
+        × (¬ IsTrapKindIfAny (at (table_view row.now) key))) }
+{
+    if value(row, key).is_none() {
+        return Ok(());
+    }
+    match text(row, key) {
+        Some("trap") => Ok(()),
+        _ => Err(fault(row, key)),
     }
 }
 

@@ -1,10 +1,12 @@
 //! The configuration of a gateway: what is read of a text, and what is reported of one that isn't read.
 
 use crate::access::question;
+use snmpsec_config::level_word;
 use snmpsec_gate_config::{
-    DeviceOddity, DeviceSettings, GateConfig, GateFault, GateRows, GateSettings,
+    DeviceOddity, DeviceSettings, GateConfig, GateFault, GateRows, GateSettings, ReceiverSettings,
 };
 use std::alloc::{AllocError, Global};
+use std::net::SocketAddr;
 use tests_messages::row::{Fault, Row, keep};
 use tests_messages::subjects::Subject;
 
@@ -94,22 +96,44 @@ fn of_config(config: &GateConfig, row: &mut Row<'_>) {
         "gate" => row.say(gate_text(row.alloc, &config.gate)),
         "limits" => row.say(limits_text(row.alloc, &config.gate)),
         "device" => device(config, row),
+        "traps" => traps(&config.gate, row),
+        "receiver" => receiver(config, row),
         "allowed" => question(&config.access, row),
         _ => row.fail_kind(),
     }
 }
 
-/// What is said of the gateway but for its limits.
+/// Addresses, with a space between each two.
+fn addresses_text(alloc: Global, addresses: &[SocketAddr]) -> Result<String, AllocError> {
+    let mut text = String::new(alloc);
+    for address in addresses {
+        if !text.is_empty() {
+            text.push_str(" ")?;
+        }
+        let address = format!(in alloc; "{address}")?;
+        text.push_str(address.as_str())?;
+    }
+    Ok(text)
+}
+
+/// `traps`: where the gateway takes Traps.
+fn traps(gate: &GateSettings, row: &mut Row<'_>) {
+    if gate.traps.is_empty() {
+        row.none();
+    } else {
+        row.say(addresses_text(row.alloc, &gate.traps));
+    }
+}
+
+/// What is said of the gateway but for its limits, and for where it takes Traps.
 fn gate_text(alloc: Global, gate: &GateSettings) -> Result<String, AllocError> {
     let mut text = format!(in alloc;
         "{} {} {} {}",
         gate.engine, gate.boots, gate.long_answers, gate.report_unreachable
     )?;
-    for address in &gate.listen {
-        text.push_str(" ")?;
-        let address = format!(in alloc; "{address}")?;
-        text.push_str(address.as_str())?;
-    }
+    text.push_str(" ")?;
+    let listen = addresses_text(alloc, &gate.listen)?;
+    text.push_str(listen.as_str())?;
     Ok(text)
 }
 
@@ -129,6 +153,22 @@ fn device(config: &GateConfig, row: &mut Row<'_>) {
         Some(device) => row.say(device_text(row.alloc, device)),
         None => row.none(),
     }
+}
+
+/// `receiver N`: what is said of the receiver, counted from 0.
+fn receiver(config: &GateConfig, row: &mut Row<'_>) {
+    let place = row.place();
+    match config.receivers.get(place) {
+        Some(receiver) => row.say(receiver_text(row.alloc, receiver)),
+        None => row.none(),
+    }
+}
+
+/// What is said of a receiver.
+fn receiver_text(alloc: Global, receiver: &ReceiverSettings) -> Result<String, AllocError> {
+    let user = shown(receiver.user.as_slice());
+    let level = level_word(receiver.level);
+    format!(in alloc; "{} {user} {level}", receiver.address)
 }
 
 /// Octets as text, `-` for none, and `?` where they are no text.

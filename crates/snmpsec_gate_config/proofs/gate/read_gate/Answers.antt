@@ -6,7 +6,7 @@ use Rattle.snmpsec_gate_config.specs.Values.{IsRightAt}
 use Rattle.snmpsec_gate_config.specs.Rows.{IsGate}
 use Rattle.snmpsec_gate_config.specs.declared.table.GateTable.TheVariants as tables
 use Rattle.snmpsec_gate_config.specs.declared.table.GateKey.TheVariants as keys
-use Rattle.snmpsec_gate_config.proofs.Told.{tells, tells_unlisted, tells_addresses, gate_right, gate_limits_right, right_flag, wrong_flag, first_more, first_behind, gate_limit_keys, flag_keys}
+use Rattle.snmpsec_gate_config.proofs.Told.{tells, tells_unlisted, tells_addresses, tells_traps, right_addresses_if_any, gate_right, gate_limits_right, right_flag, wrong_flag, first_more, first_behind, gate_limit_keys, flag_keys}
 use Rattle.snmpsec_gate_config.proofs.gate.read_gate.Goals as goal
 
 pub returns-in_err-only_listed-clause-fault : goal.returns-in_err-only_listed-clause-fault
@@ -33,23 +33,28 @@ returns-in_err-listen-clause-fault c =
     let p = err_from_is_err_and c.from_residual-in_err-listen.result c.from_residual-in_err-listen.ensures.1 in
     rw (p.1, p.2) (tells_addresses (table_view c.args.row.now) _ c.in_ok-only_listed.ensures.ok (inl (_, c.in_ok-engine.ensures.ok)) (inl (_, c.in_ok-path.ensures.ok)) c.in_err-listen.ensures.fault)
 
+pub returns-in_err-traps-clause-fault : goal.returns-in_err-traps-clause-fault
+returns-in_err-traps-clause-fault c =
+    let p = err_from_is_err_and c.from_residual-in_err-traps.result c.from_residual-in_err-traps.ensures.1 in
+    rw (p.1, p.2) (tells_traps (table_view c.args.row.now) _ c.in_ok-only_listed.ensures.ok (inl (_, c.in_ok-engine.ensures.ok)) (inl (_, c.in_ok-path.ensures.ok)) (inl (_, c.in_ok-listen.ensures.ok)) c.in_err-traps.ensures.fault)
+
 pub returns-in_err-limits-clause-fault : goal.returns-in_err-limits-clause-fault
 returns-in_err-limits-clause-fault c =
     let row = table_view c.args.row.now in
     let p = err_from_is_err_and c.from_residual-in_err-limits.result c.from_residual-in_err-limits.ensures.1 in
     let f = c.in_err-limits.ensures.fault in
-    rw (p.1, p.2) (tells tables.Gate IsGate row _ _ f.told c.in_ok-only_listed.ensures.ok (inr (inl (_, c.in_ok-engine.ensures.ok), inr (inl (_, c.in_ok-path.ensures.ok), inr (inl (_, c.in_ok-listen.ensures.ok), first_more (IsRightAt row) gate_limit_keys flag_keys _ f.first)))) (λ made stands. gate_right _ stands))
+    rw (p.1, p.2) (tells tables.Gate IsGate row _ _ f.told c.in_ok-only_listed.ensures.ok (inr (inl (_, c.in_ok-engine.ensures.ok), inr (inl (_, c.in_ok-path.ensures.ok), inr (inl (_, c.in_ok-listen.ensures.ok), inr (right_addresses_if_any _ _ c.in_ok-traps.ensures.ok, first_more (IsRightAt row) gate_limit_keys flag_keys _ f.first))))) (λ made stands. gate_right _ stands))
 
 pub returns-in_err-long_answers-clause-fault : goal.returns-in_err-long_answers-clause-fault
 returns-in_err-long_answers-clause-fault c =
     let row = table_view c.args.row.now in
     let p = err_from_is_err_and c.from_residual-in_err-long_answers.result c.from_residual-in_err-long_answers.ensures.1 in
     let f = c.in_err-long_answers.ensures.fault in
-    rw (p.1, p.2) (tells tables.Gate IsGate row _ keys.LongAnswers f.0 c.in_ok-only_listed.ensures.ok (inr (inl (_, c.in_ok-engine.ensures.ok), inr (inl (_, c.in_ok-path.ensures.ok), inr (inl (_, c.in_ok-listen.ensures.ok), first_behind (IsRightAt row) gate_limit_keys flag_keys _ (gate_limits_right row c.in_ok-limits.ensures.ok) (inl (refl, wrong_flag _ f.1)))))) (λ made stands. gate_right _ stands))
+    rw (p.1, p.2) (tells tables.Gate IsGate row _ keys.LongAnswers f.0 c.in_ok-only_listed.ensures.ok (inr (inl (_, c.in_ok-engine.ensures.ok), inr (inl (_, c.in_ok-path.ensures.ok), inr (inl (_, c.in_ok-listen.ensures.ok), inr (right_addresses_if_any _ _ c.in_ok-traps.ensures.ok, first_behind (IsRightAt row) gate_limit_keys flag_keys _ (gate_limits_right row c.in_ok-limits.ensures.ok) (inl (refl, wrong_flag _ f.1))))))) (λ made stands. gate_right _ stands))
 
 pub returns-in_err-report_unreachable-clause-fault : goal.returns-in_err-report_unreachable-clause-fault
 returns-in_err-report_unreachable-clause-fault c =
     let row = table_view c.args.row.now in
     let p = err_from_is_err_and c.from_residual-in_err-report_unreachable.result c.from_residual-in_err-report_unreachable.ensures.1 in
     let f = c.in_err-report_unreachable.ensures.fault in
-    rw (p.1, p.2) (tells tables.Gate IsGate row _ keys.ReportUnreachable f.0 c.in_ok-only_listed.ensures.ok (inr (inl (_, c.in_ok-engine.ensures.ok), inr (inl (_, c.in_ok-path.ensures.ok), inr (inl (_, c.in_ok-listen.ensures.ok), first_behind (IsRightAt row) gate_limit_keys flag_keys _ (gate_limits_right row c.in_ok-limits.ensures.ok) (inr (right_flag _ _ c.in_ok-long_answers.ensures.ok, inl (refl, wrong_flag _ f.1))))))) (λ made stands. gate_right _ stands))
+    rw (p.1, p.2) (tells tables.Gate IsGate row _ keys.ReportUnreachable f.0 c.in_ok-only_listed.ensures.ok (inr (inl (_, c.in_ok-engine.ensures.ok), inr (inl (_, c.in_ok-path.ensures.ok), inr (inl (_, c.in_ok-listen.ensures.ok), inr (right_addresses_if_any _ _ c.in_ok-traps.ensures.ok, first_behind (IsRightAt row) gate_limit_keys flag_keys _ (gate_limits_right row c.in_ok-limits.ensures.ok) (inr (right_flag _ _ c.in_ok-long_answers.ensures.ok, inl (refl, wrong_flag _ f.1)))))))) (λ made stands. gate_right _ stands))

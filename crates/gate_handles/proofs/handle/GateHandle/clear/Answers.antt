@@ -14,7 +14,9 @@ returns c =
       };
       path = c.empty_settings-settings.ensures.path;
       listens = c.empty_settings-settings.ensures.listen;
+      takes_no_traps = c.empty_settings-settings.ensures.traps;
       no_devices = c.new-devices.ensures.items;
-      no_access = c.new.ensures.items;
+      no_receivers = c.new.ensures.items;
+      no_access = c.new-2.ensures.items;
       quiet = record { message = refl; client = refl };
     }
