@@ -4,3 +4,5 @@ pub mod Choices
 pub mod Written
 pub mod Dealing
 pub mod Running
+pub mod Exchanges
+pub mod SentInforms

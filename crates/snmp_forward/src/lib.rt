@@ -108,15 +108,24 @@
 //! ```
 #![tactic(auto)]
 
+mod asking;
+mod exchange;
+mod exchange_laws;
 mod forwarder;
+mod inform;
 mod laws;
 mod notification;
 mod queue;
 mod receivers;
 mod sealing;
 mod trap;
+mod waiting_inform;
 
+pub use asking::AskedWith;
+pub use exchange::{InformExchange, InformLimits, InformTurn};
+pub use exchange_laws::{an_inform_is_asked_as_a_request, an_inform_is_sent_within_its_tries};
 pub use forwarder::{Forwarded, Forwarder, TrapTaken};
+pub use inform::Inform;
 pub use laws::{each_receiver_has_its_turn, notifications_are_mediated, one_notification};
 pub use notification::{DeviceNotification, NotNotification, read_device_notification};
 pub use queue::WAITING_LIMIT;
