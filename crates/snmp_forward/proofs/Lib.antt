@@ -6,3 +6,5 @@ pub mod Dealing
 pub mod Running
 pub mod Exchanges
 pub mod SentInforms
+pub mod Dues
+pub mod Tokens

@@ -2,7 +2,7 @@
 --
 -- `IsNewInform`: one of which nothing was sent. `IsMessageWritten`: what comes of sealing a message for its receiver.
 -- `IsSentInform`: the message that is due is sent. `HearsInform`: an answer came to the message that was sent last.
--- `HasToken`: its answer is waited for under this token. `IsFirstOf`: the place of the first element with a property.
+-- `HasToken`: its answer is waited for under this token. `IsDue`: something is to be done for it. `IsFirstOf`: the place of the first element with a property.
 -- `IsFirstDue`: when something is to be done for the first of them.
 use Rattle.std.specs.Prelude.{◌≡◌, ◌≢◌, ◌<◌, ◌≤◌, ℕ, Bool, List, [], All, Contains, Option, Some, None, length, slice_get, take}
 use Rattle.snmp_requests.specs.declared.device_request.Heard.{Heard}
@@ -77,6 +77,10 @@ pub record HearsInform (old : WaitingInform) (heard : Heard) (holds_clock : Bool
 abbrev pub HasToken : ℕ → WaitingInform → Type 0
 HasToken token w = w.token ≡ Some token
 
+-- something is to be done for it at this moment
+abbrev pub IsDue : ℕ → WaitingInform → Type 0
+IsDue now w = w.exchange.due ≤ now
+
 -- the element at this place is the first that has P
 pub record IsFirstOf {A : Type 0} (P : A → Type 0) (xs : List A) (place : ℕ) : Type 0 where
   pub it : A
@@ -88,5 +92,5 @@ pub record IsFirstOf {A : Type 0} (P : A → Type 0) (xs : List A) (place : ℕ)
 pub record IsFirstDue (list : List WaitingInform) (due : ℕ) : Type 0 where
   pub first : WaitingInform
   pub there : Contains list first
-  pub due_is : first.exchange.due ≡ due
+  pub due_is : due ≡ first.exchange.due
   pub least : All (λ (w : WaitingInform). due ≤ w.exchange.due) list

@@ -2,8 +2,8 @@
 
 ghost use Rattle.std.specs.Prelude.{◌≡◌, ◌≤◌, ◌<◌, [], All, IfOk, MatchOption, min};
 ghost use Rattle.snmp_ber.specs.declared.number.TheConstants.{MAX_INTEGER32};
-ghost use Rattle.snmp_forward.specs.WaitingInforms.{HasToken, HearsInform, IsAddressed, IsFirstDue, IsFirstOf};
-ghost use Rattle.snmp_forward.specs.WaitingInforms.{IsMessageWritten, IsNewInform, IsSentInform};
+ghost use Rattle.snmp_forward.specs.WaitingInforms.{HasToken, HearsInform, IsAddressed, IsDue, IsFirstDue};
+ghost use Rattle.snmp_forward.specs.WaitingInforms.{IsFirstOf, IsMessageWritten, IsNewInform, IsSentInform};
 
 use crate::asking::{AskedWith, write_discovery, write_inform, write_time_request};
 use crate::exchange::{InformExchange, InformLimits};
@@ -42,8 +42,7 @@ pub(crate) fn place_of(list: &[WaitingInform], token: u64) -> Option<usize>
 
 /// Returns the place of the first Inform for which something is to be done.
 pub(crate) fn first_due(list: &[WaitingInform], now: u64) -> Option<usize>
-    ensures { MatchOption result (All (λ w. now < w.exchange.due) list.now)
-        (IsFirstOf (λ w. w.exchange.due ≤ now) list.now) }
+    ensures { MatchOption result (All (λ w. ¬ IsDue now w) list.now) (IsFirstOf (IsDue now) list.now) }
 {
     for (place, waiting) in list.iter().enumerate() {
         if waiting.exchange.due <= now {
