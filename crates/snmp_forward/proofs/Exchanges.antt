@@ -10,7 +10,7 @@ use Rattle.snmp_requests.specs.declared.device_request.SentMessage.TheVariants.{
 use Rattle.snmp_requests.specs.declared.device_request.NextStep.{NextStep}
 use Rattle.snmp_requests.specs.declared.device_request.NextStep.TheVariants.{Wait, Send, Answered, Refused}
 use Rattle.snmp_requests.specs.DeviceRequests.{Hears, ended, to_engine}
-use Rattle.snmp_requests.specs.DeviceRequestRuns.{IsHeardRun, is_sending}
+use Rattle.snmp_requests.specs.DeviceRequestRuns.{HearStep, IsHeardRun, is_sending}
 use Rattle.snmp_forward.specs.Exchange.{GoesOn, HearsAnswer, IsCounted, IsSent, MayBeTried}
 use Rattle.snmp_forward.specs.ExchangeRuns.{AreWaits, ExchangeStep, IsExchangeRun, IsWait, Steps, hears, heard_in, is_trying, sends, times_tried}
 use Rattle.snmp_forward.specs.declared.exchange.InformExchange.{InformExchange}
@@ -121,6 +121,11 @@ hears_left tries m x heard holds Wait new h =
     let after : left_at tries m new ≡ left tries m x.request.sent x.times = ap (λ (r : DeviceRequest). left tries m r.sent new.times) h.hears.1 ∙ ap (left tries m x.request.sent) h.goes_on.0 in
     omega (arith, after)
 
+-- one answer more is heard
+heard_last : (steps : List HearStep) (first middle : DeviceRequest) (what : HearStep) (last : DeviceRequest) → IsHeardRun first steps middle → Hears middle what.heard what.holds_clock what.turn last → IsHeardRun first (steps ++ what ∷ []) last
+heard_last [] first middle what last run is = (last, subst (λ (r : DeviceRequest). Hears r what.heard what.holds_clock what.turn last) run is, refl)
+heard_last (step ∷ steps) first middle what last run is = (run.0, run.1, heard_last steps run.0 middle what last run.2 is)
+
 module _ (limits : InformLimits) where
   sends_left : (m n : SentMessage) (now : ℕ) (x new : InformExchange) → MayBeTried limits x n → IsSent limits now x new → is_sending m (Send n) + left_at limits.tries m new ≤ left_at limits.tries m x
   sends_left m n now x new may sent =
@@ -136,7 +141,7 @@ module _ (limits : InformLimits) where
 
   run_left : (m : SentMessage) (steps : List ExchangeStep) (first last : InformExchange) → IsExchangeRun limits first steps last → times_tried m steps + left_at limits.tries m last ≤ left_at limits.tries m first
   run_left m [] first last run = omega (arith, ap (left_at limits.tries m) run)
-  run_left m (step ∷ steps) first last run = omega (arith, step_left m first step run.0 run.1, run_left m steps run.0 last run.2)
+  run_left m (step ∷ before) first last run = omega (arith, step_left m run.0 step last run.2, run_left m before first run.0 run.1)
 
   pub tried_at_most : (steps : List ExchangeStep) (first last : InformExchange) (m : SentMessage) → first.times ≡ 0 → IsExchangeRun limits first steps last → times_tried m steps ≤ limits.tries
   tried_at_most steps first last m anew run =
@@ -151,19 +156,19 @@ module _ (limits : InformLimits) where
   wait_due x heard holds (Refused counter) new never h = h.goes_on.1
   wait_due x heard holds Wait new never h = h.goes_on.1
 
-  waits_due : (steps : List ExchangeStep) (first last : InformExchange) (n : SentMessage) (now : ℕ) → AreWaits steps → IsExchangeRun limits first (steps ++ sends now n ∷ []) last → first.due ≤ now
-  waits_due [] first last n now waits run = run.1.0
-  waits_due (sends other m ∷ steps) first last n now waits run = absurd waits.0
-  waits_due (hears what ∷ steps) first last n now waits run =
-      omega (arith, wait_due first what.heard what.holds_clock what.turn run.0 waits.0 run.1, waits_due steps run.0 last n now waits.1 run.2)
+  waits_due : (before waits : List ExchangeStep) (first last : InformExchange) (m : SentMessage) (then : ℕ) → AreWaits waits → IsExchangeRun limits first (waits ++ sends then m ∷ before) last → last.due ≡ min (then + limits.again) (2 ^ 64 - 1)
+  waits_due before [] first last m then waits run = run.2.2.due
+  waits_due before (sends other n ∷ others) first last m then waits run = absurd waits.0
+  waits_due before (hears what ∷ others) first last m then waits run =
+      wait_due run.0 what.heard what.holds_clock what.turn last waits.0 run.2 ∙ waits_due before others first run.0 m then waits.1 run.1
 
-  pub apart : (steps : List ExchangeStep) (first last : InformExchange) (m n : SentMessage) (then now : ℕ) → AreWaits steps → IsExchangeRun limits first (sends then m ∷ (steps ++ sends now n ∷ [])) last
+  pub apart : (before waits : List ExchangeStep) (first last : InformExchange) (m n : SentMessage) (then now : ℕ) → AreWaits waits → IsExchangeRun limits first (sends now n ∷ (waits ++ sends then m ∷ before)) last
       → min (then + limits.again) (2 ^ 64 - 1) ≤ now
-  apart steps first last m n then now waits run = subst (λ (due : ℕ). due ≤ now) run.1.2.due (waits_due steps run.0 last n now waits run.2)
+  apart before waits first last m n then now are run = subst (λ (due : ℕ). due ≤ now) (waits_due before waits first run.0 m then are run.1) run.2.0
 
   -- ---- what is heard
 
   pub heard_run : (steps : List ExchangeStep) (first last : InformExchange) → IsExchangeRun limits first steps last → IsHeardRun first.request (heard_in steps) last.request
   heard_run [] first last run = ap (λ (x : InformExchange). x.request) run
-  heard_run (sends now n ∷ steps) first last run = subst (λ (r : DeviceRequest). IsHeardRun r (heard_in steps) last.request) run.1.2.request (heard_run steps run.0 last run.2)
-  heard_run (hears what ∷ steps) first last run = (run.0.request, run.1.hears, heard_run steps run.0 last run.2)
+  heard_run (sends now n ∷ before) first last run = subst (λ (r : DeviceRequest). IsHeardRun first.request (heard_in before) r) (sym run.2.2.request) (heard_run before first run.0 run.1)
+  heard_run (hears what ∷ before) first last run = heard_last (heard_in before) first.request run.0.request what last.request (heard_run before first run.0 run.1) run.2.hears

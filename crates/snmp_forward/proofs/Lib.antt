@@ -8,3 +8,4 @@ pub mod Exchanges
 pub mod SentInforms
 pub mod Dues
 pub mod Tokens
+pub mod InformKeeping

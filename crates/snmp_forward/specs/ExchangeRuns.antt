@@ -2,7 +2,7 @@
 --
 -- `IsExchangeRun`: what was sent and heard leads from one exchange to another. `times_tried`: how often a message was
 -- sent. `heard_in`: what was heard. `AreWaits`: nothing was sent, and nothing heard by which another message is due.
-use Rattle.std.specs.Prelude.{◌≡◌, ◌≢◌, ◌≤◌, ℕ, ◌+◌, List, [], ◌∷◌}
+use Rattle.std.specs.Prelude.{◌≡◌, ◌≢◌, ◌≤◌, ℕ, ◌+◌, List, [], ◌∷◌, ◌++◌}
 use Rattle.snmp_requests.specs.declared.device_request.SentMessage.{SentMessage}
 use Rattle.snmp_requests.specs.declared.device_request.NextStep.{NextStep}
 use Rattle.snmp_requests.specs.declared.device_request.NextStep.TheVariants as step
@@ -20,11 +20,11 @@ abbrev pub Steps : InformLimits → InformExchange → ExchangeStep → InformEx
 Steps limits old (sends now m) new = (old.due ≤ now) × MayBeTried limits old m × IsSent limits now old new
 Steps limits old (hears what) new = HearsAnswer old what.heard what.holds_clock what.turn new
 
--- the steps, the first of them first
+-- the steps, the latest of them first
 abbrev pub IsExchangeRun : InformLimits → InformExchange → List ExchangeStep → InformExchange → Type 0
 IsExchangeRun limits first [] last = last ≡ first
-IsExchangeRun limits first (step ∷ steps) last = (second : InformExchange) × Steps limits first step second
-    × IsExchangeRun limits second steps last
+IsExchangeRun limits first (step ∷ before) last = (middle : InformExchange) × IsExchangeRun limits first before middle
+    × Steps limits middle step last
 
 -- 1 where this message is sent
 abbrev pub is_trying : SentMessage → ExchangeStep → ℕ
@@ -33,13 +33,13 @@ is_trying m (hears what) = 0
 
 abbrev pub times_tried : SentMessage → List ExchangeStep → ℕ
 times_tried m [] = 0
-times_tried m (step ∷ steps) = is_trying m step + times_tried m steps
+times_tried m (step ∷ before) = is_trying m step + times_tried m before
 
--- what was heard, in its order
+-- what was heard, the first of it first
 abbrev pub heard_in : List ExchangeStep → List HearStep
 heard_in [] = []
-heard_in (sends now n ∷ steps) = heard_in steps
-heard_in (hears what ∷ steps) = what ∷ heard_in steps
+heard_in (sends now n ∷ before) = heard_in before
+heard_in (hears what ∷ before) = heard_in before ++ what ∷ []
 
 -- nothing is to be sent by it
 abbrev pub IsWait : ExchangeStep → Type 0

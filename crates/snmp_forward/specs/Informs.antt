@@ -2,8 +2,9 @@
 -- 3416, section 4.2.7).
 --
 -- `IsInformOf`: the Inform by which a receiver is told what a device sent. `inform_to`: as what it goes out.
--- `time_request_to`: as what the receiver's engine is asked for its boots and time. `IsAskedAs`: what comes of sealing
--- a message, and what is remembered of it.
+-- `time_request_to`: as what the receiver's engine is asked for its boots and time. `SealsInform`: what comes of
+-- sealing an Inform. `SendsDiscovery`, `SendsTimeRequest`, `SendsInform`: the message that goes out, and what is
+-- remembered of it.
 use Rattle.std.specs.Prelude.{◌≡◌, ◌≢◌, ◌⊎◌, ℕ, ℤ, pos, true, List, [], None, Option, Result, Err, Ok}
 use Rattle.std.specs.Global.{Vec}
 use Rattle.engine_clock.specs.Marks.{SeenPair, mark_at}
@@ -75,17 +76,18 @@ time_request_to engine held by inform = record {
 
 -- ---- what comes of sealing them, and what is remembered of them
 
-abbrev pub IsDiscoveryWritten : Held → Sealing → AskedWith → Type 0
-IsDiscoveryWritten held by (Sends datagram pending) = Seals held.users (discovering by.id) (Ok datagram.items)
+abbrev pub SendsDiscovery : Held → Sealing → Pending → List ℕ → Type 0
+SendsDiscovery held by pending datagram = Seals held.users (discovering by.id) (Ok datagram)
     × Remembers pending by.id [] [] NoAuthNoPriv [] [] (pos by.id)
-IsDiscoveryWritten held by (Refused why) = ⊥
 
-abbrev pub IsTimeRequestWritten : Held → List ℕ → Inform → Sealing → AskedWith → Type 0
-IsTimeRequestWritten held engine inform by (Sends datagram pending) =
-    Seals held.users (spoken (time_request_to engine (mark_at held.clocks engine) by inform)) (Ok datagram.items)
+-- what comes of sealing the request for the time
+abbrev pub SealsTimeRequest : Held → List ℕ → Inform → Sealing → Result (List ℕ) Refusal → Type 0
+SealsTimeRequest held engine inform by answer =
+    Seals held.users (spoken (time_request_to engine (mark_at held.clocks engine) by inform)) answer
+
+abbrev pub SendsTimeRequest : Held → List ℕ → Inform → Sealing → Pending → List ℕ → Type 0
+SendsTimeRequest held engine inform by pending datagram = SealsTimeRequest held engine inform by (Ok datagram)
     × Remembers pending by.id engine inform.user.items AuthNoPriv engine [] (pos by.id)
-IsTimeRequestWritten held engine inform by (Refused why) =
-    Seals held.users (spoken (time_request_to engine (mark_at held.clocks engine) by inform)) (Err why)
 
 -- what comes of sealing the Inform of a notification
 pub record SealsInform (held : Held) (own engine : List ℕ) (inform : Inform) (by : Sealing)
@@ -96,7 +98,6 @@ pub record SealsInform (held : Held) (own engine : List ℕ) (inform : Inform) (
   pub is : IsNotification inform.datagram.items community pdu trap_oid
   pub seals : Seals held.users (spoken (inform_to own engine (mark_at held.clocks engine) by inform pdu)) answer
 
--- the same of an Inform that goes out, of which this is remembered
 pub record SendsInform (held : Held) (own engine : List ℕ) (inform : Inform) (by : Sealing) (pending : Pending)
     (datagram : List ℕ) : Type 0 where
   pub inform_is : SealsInform held own engine inform by (Ok datagram)
@@ -109,11 +110,25 @@ pub record IsNothingToSend (inform : Inform) (why : Refusal) : Type 0 where
   pub none : IsNoNotification inform.datagram.items cause
   pub why_is : why ≡ NotMessage
 
+abbrev pub RefusesInform : Held → List ℕ → List ℕ → Inform → Sealing → Refusal → Type 0
+RefusesInform held own engine inform by why =
+    SealsInform held own engine inform by (Err why) ⊎ IsNothingToSend inform why
+
+-- ---- by what is returned
+
+abbrev pub IsDiscoveryWritten : Held → Sealing → AskedWith → Type 0
+IsDiscoveryWritten held by (Sends datagram pending) = SendsDiscovery held by pending datagram.items
+IsDiscoveryWritten held by (Refused why) = ⊥
+
+abbrev pub IsTimeRequestWritten : Held → List ℕ → Inform → Sealing → AskedWith → Type 0
+IsTimeRequestWritten held engine inform by (Sends datagram pending) =
+    SendsTimeRequest held engine inform by pending datagram.items
+IsTimeRequestWritten held engine inform by (Refused why) = SealsTimeRequest held engine inform by (Err why)
+
 abbrev pub IsInformWritten : Held → List ℕ → List ℕ → Inform → Sealing → AskedWith → Type 0
 IsInformWritten held own engine inform by (Sends datagram pending) =
     SendsInform held own engine inform by pending datagram.items
-IsInformWritten held own engine inform by (Refused why) =
-    SealsInform held own engine inform by (Err why) ⊎ IsNothingToSend inform why
+IsInformWritten held own engine inform by (Refused why) = RefusesInform held own engine inform by why
 
 -- ---- between the functions
 

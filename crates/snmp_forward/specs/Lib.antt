@@ -11,3 +11,5 @@ pub mod Exchange
 pub mod ExchangeRuns
 pub mod Informs
 pub mod WaitingInforms
+pub mod InformHistory
+pub mod InformStanding

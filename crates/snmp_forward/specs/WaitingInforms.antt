@@ -1,10 +1,11 @@
 -- Informs that wait to be acknowledged.
 --
--- `IsNewInform`: one of which nothing was sent. `IsMessageWritten`: what comes of sealing a message for its receiver.
+-- `IsNewInform`: one of which nothing was sent. `SendsMessage`, `RefusesMessage`: what becomes of a message for its
+-- receiver.
 -- `IsSentInform`: the message that is due is sent. `HearsInform`: an answer came to the message that was sent last.
 -- `HasToken`: its answer is waited for under this token. `IsDue`: something is to be done for it. `IsFirstOf`: the place of the first element with a property.
 -- `IsFirstDue`: when something is to be done for the first of them.
-use Rattle.std.specs.Prelude.{◌≡◌, ◌≢◌, ◌<◌, ◌≤◌, ℕ, Bool, List, [], All, Contains, Option, Some, None, length, slice_get, take}
+use Rattle.std.specs.Prelude.{◌≡◌, ◌≢◌, ◌<◌, ◌≤◌, ℕ, Bool, List, [], All, Contains, Option, Some, None, Err, slice_get, take}
 use Rattle.snmp_requests.specs.declared.device_request.Heard.{Heard}
 use Rattle.snmp_requests.specs.declared.device_request.Known.TheVariants as known
 use Rattle.snmp_requests.specs.declared.device_request.NextStep.{NextStep}
@@ -13,10 +14,13 @@ use Rattle.snmp_requests.specs.declared.device_request.SentMessage.{SentMessage}
 use Rattle.snmp_requests.specs.declared.device_request.SentMessage.TheVariants.{Discovery, TimeRequest, Request}
 use Rattle.snmp_requests.specs.DeviceRequests.{Begins}
 use Rattle.snmp_manager.specs.Views.{Held}
+use Rattle.snmp_manager.specs.declared.pending.Pending.{Pending}
+use Rattle.snmp_message.specs.declared.refusal.Refusal.{Refusal}
 use Rattle.snmp_forward.specs.Exchange.{HearsAnswer, IsSent}
-use Rattle.snmp_forward.specs.Informs.{IsDiscoveryWritten, IsInformWritten, IsTimeRequestWritten}
+use Rattle.snmp_forward.specs.Informs.{RefusesInform, SealsTimeRequest, SendsDiscovery, SendsInform, SendsTimeRequest}
 use Rattle.snmp_forward.specs.declared.exchange.InformLimits.{InformLimits}
 use Rattle.snmp_forward.specs.declared.asking.AskedWith.{AskedWith}
+use Rattle.snmp_forward.specs.declared.asking.AskedWith.TheVariants.{Sends, Refused}
 use Rattle.snmp_forward.specs.declared.inform.Inform.{Inform}
 use Rattle.snmp_forward.specs.declared.sealing.Sealing.{Sealing}
 use Rattle.snmp_forward.specs.declared.waiting_inform.WaitingInform.{WaitingInform}
@@ -38,13 +42,27 @@ IsAddressed (Some known) inform Discovery engine user = (engine ≡ []) × (user
 IsAddressed (Some known) inform TimeRequest engine user = (engine ≡ known) × (user ≡ inform.user.items)
 IsAddressed (Some known) inform Request engine user = (engine ≡ known) × (user ≡ inform.user.items)
 
--- what comes of sealing a message, and what is remembered of it; an engine that isn't known is discovered
+-- this message goes out, and this is remembered of it; an engine that isn't known is discovered
+abbrev pub SendsMessage : Held → List ℕ → Option (List ℕ) → Inform → SentMessage → Sealing → Pending → List ℕ → Type 0
+SendsMessage held own None inform m by pending datagram = SendsDiscovery held by pending datagram
+SendsMessage held own (Some engine) inform Discovery by pending datagram = SendsDiscovery held by pending datagram
+SendsMessage held own (Some engine) inform TimeRequest by pending datagram =
+    SendsTimeRequest held engine inform by pending datagram
+SendsMessage held own (Some engine) inform Request by pending datagram =
+    SendsInform held own engine inform by pending datagram
+
+-- it can't be sealed, for this reason
+abbrev pub RefusesMessage : Held → List ℕ → Option (List ℕ) → Inform → SentMessage → Sealing → Refusal → Type 0
+RefusesMessage held own None inform m by why = ⊥
+RefusesMessage held own (Some engine) inform Discovery by why = ⊥
+RefusesMessage held own (Some engine) inform TimeRequest by why = SealsTimeRequest held engine inform by (Err why)
+RefusesMessage held own (Some engine) inform Request by why = RefusesInform held own engine inform by why
+
+-- what becomes of a message
 abbrev pub IsMessageWritten : Held → List ℕ → Option (List ℕ) → Inform → SentMessage → Sealing → AskedWith → Type 0
-IsMessageWritten held own None inform m by written = IsDiscoveryWritten held by written
-IsMessageWritten held own (Some engine) inform Discovery by written = IsDiscoveryWritten held by written
-IsMessageWritten held own (Some engine) inform TimeRequest by written =
-    IsTimeRequestWritten held engine inform by written
-IsMessageWritten held own (Some engine) inform Request by written = IsInformWritten held own engine inform by written
+IsMessageWritten held own engine inform m by (Sends datagram pending) =
+    SendsMessage held own engine inform m by pending datagram.items
+IsMessageWritten held own engine inform m by (Refused why) = RefusesMessage held own engine inform m by why
 
 -- the message that is due is sent, and an answer to it is waited for under this token
 pub record IsSentInform (limits : InformLimits) (now token : ℕ) (old new : WaitingInform) : Type 0 where

@@ -1,6 +1,6 @@
 //! Laws of one Inform, over any run of steps. Each function does nothing: its contract is the law.
 
-ghost use Rattle.std.specs.Prelude.{◌≡◌, ◌≤◌, ◌+◌, ◌-◌, ◌^◌, ◌++◌, ◌∷◌, ℕ, List, [], IsSome, min};
+ghost use Rattle.std.specs.Prelude.{◌≡◌, ◌≤◌, ◌+◌, ◌-◌, ◌^◌, ◌++◌, ◌∷◌, ℕ, List, IsSome, min};
 ghost use Rattle.snmp_ber.specs.declared.level.Level.{Level};
 ghost use Rattle.snmp_requests.specs.DeviceRequestRuns.{AreUnauthenticated, IsHeardRun};
 ghost use Rattle.snmp_requests.specs.DeviceRequests.{Begins, first_message};
@@ -19,9 +19,9 @@ pub fn an_inform_is_sent_within_its_tries()
     ensures tries { (limits : InformLimits) (steps : List ExchangeStep) (first last : InformExchange)
         (m : SentMessage) → first.times ≡ 0 → IsExchangeRun limits first steps last
         → times_tried m steps ≤ limits.tries }
-    ensures apart { (limits : InformLimits) (steps : List ExchangeStep) (first last : InformExchange)
-        (m n : SentMessage) (then now : ℕ) → AreWaits steps
-        → IsExchangeRun limits first (sends then m ∷ (steps ++ sends now n ∷ [])) last
+    ensures apart { (limits : InformLimits) (before waits : List ExchangeStep) (first last : InformExchange)
+        (m n : SentMessage) (then now : ℕ) → AreWaits waits
+        → IsExchangeRun limits first (sends now n ∷ (waits ++ sends then m ∷ before)) last
         → min (then + limits.again) (2 ^ 64 - 1) ≤ now }
 {}
 

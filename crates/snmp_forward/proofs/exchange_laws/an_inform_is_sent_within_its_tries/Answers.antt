@@ -5,4 +5,4 @@ pub returns-clause-tries : goal.returns-clause-tries
 returns-clause-tries c limits steps first last m anew run = tried_at_most limits steps first last m anew run
 
 pub returns-clause-apart : goal.returns-clause-apart
-returns-clause-apart c limits steps first last m n then now waits run = apart limits steps first last m n then now waits run
+returns-clause-apart c limits before between first last m n then now waits run = apart limits before between first last m n then now waits run

@@ -1,0 +1,241 @@
+-- What is known of the Informs that wait, as more happens.
+use Rattle.std.specs.Prelude.{◌≡◌, ◌≢◌, ◌<◌, ◌≤◌, ◌+◌, ℕ, zero, suc, Bool, List, [], ◌∷◌, ◌++◌, All, AllPairs, Contains, MatchBool, None, Some, true, false, length, remove, slice_get, slice_index_or, slice_set}
+use Rattle.std.specs.FinMap as map
+use Rattle.std.proofs.Common.{refl, sym, ap, subst, ◌∙◌, inl, inr, arith, length-append}
+use Rattle.std.proofs.lemmas.Bool.{cases_lt}
+use Rattle.std.proofs.lemmas.Bool.Decides.{eqb_tells}
+use Rattle.std.proofs.lemmas.List.{get_or-set_other, get_or-set_same, length-set}
+use Rattle.std.proofs.lemmas.List.Edits.{get_or-remove_above, get_or-remove_below, length-remove}
+use Rattle.std.proofs.lemmas.List.Elements.{All-cons, All-contains, All-push, All-weaker, Contains-append_right}
+use Rattle.std.proofs.lemmas.List.Quantifiers.{all_pairs_push, all_pairs_remove}
+use Rattle.std.proofs.lemmas.Option.{same_Some, slice_get_within}
+use Rattle.snmp_gate.proofs.Pairs.{pairs_set}
+use Rattle.snmp_requests.specs.Outstanding.{IsAdded, IsEnded, IsFreeToken, Outstanding, Waits, message_id_of, without}
+use Rattle.snmp_requests.specs.declared.outstanding.OutstandingRequest.{OutstandingRequest}
+use Rattle.snmp_requests.proofs.Maps.{at_insert, at_remove}
+use Rattle.snmp_manager.specs.declared.pending.Pending.{Pending}
+use Rattle.snmp_forward.specs.ExchangeRuns.{ExchangeStep, IsExchangeRun}
+use Rattle.snmp_forward.specs.InformHistory.{InformHappening, InformKnown, StandsAt, begins, inform_of, known_after, known_of, nothing_known}
+use Rattle.snmp_forward.specs.InformStanding.{InformStands, InformsStand, IsAt, IsSameElse, IsWaitedFor, KeepsRequests}
+use Rattle.snmp_forward.specs.WaitingInforms.{IsNewInform}
+use Rattle.snmp_requests.specs.DeviceRequests.{Begins}
+use Rattle.snmp_requests.specs.declared.device_request.SentMessage.{SentMessage}
+use Rattle.snmp_requests.specs.declared.device_request.SentMessage.TheVariants.{Discovery}
+use Rattle.snmp_forward.specs.declared.exchange.InformExchange.{InformExchange}
+use Rattle.snmp_forward.specs.declared.exchange.InformLimits.{InformLimits}
+use Rattle.snmp_forward.specs.declared.inform.Inform.{Inform}
+use Rattle.snmp_forward.specs.declared.informs.Informs.{Informs}
+use Rattle.snmp_forward.specs.declared.waiting_inform.WaitingInform.{WaitingInform}
+use Rattle.snmp_forward.proofs.Keeping.{latest, other, same}
+
+-- ---- the requests that wait
+
+pub keeps_all : (requests : Outstanding) → KeepsRequests requests requests
+keeps_all requests = record { later = omega arith; same = λ token r given there is. there }
+
+pub keeps_without : (requests : Outstanding) (id : ℕ) → KeepsRequests requests (without requests id)
+keeps_without requests id = record { later = omega arith; same = λ token r given there is. (at_remove requests.requests id (message_id_of token) r there).1 }
+
+pub keeps_on : (a b c : Outstanding) → KeepsRequests a b → KeepsRequests b c → KeepsRequests a c
+keeps_on a b c first second = record {
+  later = omega (arith, first.later, second.later);
+  same = λ token r given there is. first.same token r given (second.same token r (omega (arith, given, first.later)) there is) is;
+}
+
+pub keeps_added : (old : Outstanding) (token : ℕ) (pending : Pending) (new : Outstanding) → IsFreeToken old token → IsAdded old token pending new → KeepsRequests old new
+keeps_added old token pending new free added = subst (KeepsRequests old) (sym added.new_is) (record {
+  later = omega (arith, free.new);
+  same = λ t r given there is. elim (at_insert old.requests (message_id_of token) added.request (message_id_of t) r there) [
+    | inl (here, same) ↦
+        let own : t ≡ token = sym is ∙ ap (λ (x : OutstandingRequest). x.token) same ∙ added.request_is.token_is in
+        absurd (omega (arith, own, given, free.new))
+    | inr before ↦ before
+  ];
+})
+
+pub keeps_given_up : (old new : Outstanding) (token : ℕ) (result : Bool) → MatchBool result (IsEnded old token new) ((¬ Waits old token) × (new ≡ old)) → KeepsRequests old new
+keeps_given_up old new token true ended = subst (KeepsRequests old) (sym ended.new_is) (keeps_without old (message_id_of token))
+keeps_given_up old new token false none = subst (KeepsRequests old) (sym none.1) (keeps_all old)
+
+-- ---- lists
+
+read_at : {A : Type 0} (xs : List A) (n : ℕ) (x d : A) → slice_get xs n ≡ Some x → slice_index_or xs n d ≡ x
+read_at [] n x d is = absurd (cc is)
+read_at (y ∷ ys) zero x d is = same_Some y x is
+read_at (y ∷ ys) (suc n) x d is = read_at ys n x d is
+
+-- all but the one at this place have Q
+abbrev pub Others : {A : Type 0} → (A → Type 0) → List A → ℕ → Type 0
+Others {A} Q xs place = (k : ℕ) (d : A) → k < length xs → k ≢ place → Q (slice_index_or xs k d)
+
+all_set : {A : Type 0} (Q : A → Type 0) (xs : List A) (place : ℕ) (y : A) → place < length xs → Others Q xs place → Q y → All Q (slice_set xs place y)
+all_set Q xs place y within others has k d short =
+    let long : k < length xs = omega (arith, length-set xs place y, short) in
+    elim (eqb_tells k place) [
+      | inl (test, at) ↦ subst Q (sym (ap (λ (i : ℕ). slice_index_or (slice_set xs place y) i d) at ∙ get_or-set_same xs place y d within)) has
+      | inr (test, off) ↦ subst Q (sym (get_or-set_other xs place k y d off)) (others k d long off)
+    ]
+
+all_gone : {A : Type 0} (Q : A → Type 0) (xs : List A) (place : ℕ) → place < length xs → Others Q xs place → All Q (remove xs place)
+all_gone Q xs place within others k d short =
+    let long = length-remove xs place within in
+    elim (cases_lt k place) [
+      | inl less ↦ subst Q (sym (get_or-remove_below xs place d k less within)) (others k d (omega (arith, less, within)) (omega (arith, less)))
+      | inr least ↦ subst Q (sym (get_or-remove_above xs place d k least within)) (others (k + 1) d (omega (arith, short, long)) (omega (arith, least)))
+    ]
+
+-- ---- what is known of an Inform
+
+pub later : {A : Type 0} (x y : A) (xs : List A) → Contains xs x → Contains (y ∷ xs) x
+later x y xs there = Contains-append_right (y ∷ []) xs x there
+
+pub known_other : (n : ℕ) (e : InformHappening) (before : List InformHappening) → n ≢ inform_of e → known_of n (e ∷ before) ≡ known_of n before
+known_other n e before never = other n (inform_of e) (known_after e (known_of n before)) (known_of n before) never
+
+pub known_same : (n : ℕ) (e : InformHappening) (before : List InformHappening) → n ≡ inform_of e → known_of n (e ∷ before) ≡ known_after e (known_of n before)
+known_same n e before is = subst (λ (m : ℕ). known_of m (e ∷ before) ≡ known_after e (known_of m before)) (sym is) (same (inform_of e) (known_after e (known_of (inform_of e) before)) (known_of (inform_of e) before))
+
+module _ (limits : InformLimits) where
+  at_on : (e : InformHappening) (before : List InformHappening) (n : ℕ) (i : Inform) (x : InformExchange) → n ≢ inform_of e → StandsAt limits before n i x → StandsAt limits (e ∷ before) n i x
+  at_on e before n i x never at =
+      let known = known_other n e before never in record {
+        is_begun = later (begins n i) e before at.is_begun;
+        not_over = ap (λ (k : InformKnown). k.over) known ∙ at.not_over;
+        first = at.first;
+        begun = at.begun;
+        anew = at.anew;
+        run = subst (λ (steps : List ExchangeStep). IsExchangeRun limits at.first steps x) (sym (ap (λ (k : InformKnown). k.steps) known)) at.run;
+      }
+
+  -- what happens to one Inform changes nothing of another, as long as no other request is found under its token
+  stands_on : (e : InformHappening) (before : List InformHappening) (old new : Outstanding) (w : WaitingInform) → w.number ≢ inform_of e → KeepsRequests old new → InformStands limits old before w → InformStands limits new (e ∷ before) w
+  stands_on e before old new w never keeps stands =
+      let known = known_other w.number e before never in record {
+        at = at_on e before w.number w.inform w.exchange never stands.at;
+        engine = ap (λ (k : InformKnown). k.engine) known ∙ stands.engine;
+        located = stands.located;
+        waits = λ token is. let wait = stands.waits token is in record {
+          given = omega (arith, wait.given, keeps.later);
+          own = λ r there of. let own = wait.own r (keeps.same token r wait.given there of) of in record {
+            message = own.message;
+            is_asked = ap (λ (k : InformKnown). k.asked) known ∙ own.is_asked;
+            is_sent = own.is_sent;
+          };
+        };
+      }
+
+  pub stands_still : (before : List InformHappening) (old new : Outstanding) (w : WaitingInform) → KeepsRequests old new → InformStands limits old before w → InformStands limits new before w
+  stands_still before old new w keeps stands = record {
+    at = stands.at;
+    engine = stands.engine;
+    located = stands.located;
+    waits = λ token is. let wait = stands.waits token is in record {
+      given = omega (arith, wait.given, keeps.later);
+      own = λ r there of. wait.own r (keeps.same token r wait.given there of) of;
+    };
+  }
+
+-- nothing happens
+pub still : (old new : Informs) (before : List InformHappening) → new.limits ≡ old.limits → new.most ≡ old.most → new.next ≡ old.next → new.list.items ≡ old.list.items → KeepsRequests old.requests new.requests
+    → InformsStand before old → InformsStand before new
+still old new before limits most next list keeps stands =
+    let all = All-weaker (InformStands old.limits old.requests before) (InformStands old.limits new.requests before) (λ w is. stands_still old.limits before old.requests new.requests w keeps is) old.list.items stands.all in record {
+      all = subst (λ (l : InformLimits). All (InformStands l new.requests before) new.list.items) (sym limits) (subst (All (InformStands old.limits new.requests before)) (sym list) all);
+      rise = subst (AllPairs (λ (a b : WaitingInform). a.number < b.number)) (sym list) stands.rise;
+      past = subst (λ (n : ℕ). All (λ (e : InformHappening). inform_of e < n) before) (sym next) stands.past;
+      few = subst (λ (ws : List WaitingInform). length ws ≤ new.most) (sym list) (subst (λ (n : ℕ). length old.list.items ≤ n) (sym most) stands.few);
+    }
+
+-- the number of each that waits is less than that of the next one, since it has begun
+number_known : (limits : InformLimits) (before : List InformHappening) (next n : ℕ) (i : Inform) (x : InformExchange) → All (λ (e : InformHappening). inform_of e < next) before → StandsAt limits before n i x → n < next
+number_known limits before next n i x past at = All-contains (λ (e : InformHappening). inform_of e < next) before (begins n i) past at.is_begun
+
+module _ (old new : Informs) (before : List InformHappening) (e : InformHappening) (place : ℕ) (w : WaitingInform) (is_same : IsSameElse old new) (at : IsAt old place w) (of : inform_of e ≡ w.number) (keeps : KeepsRequests old.requests new.requests)
+    (stands : InformsStand before old) where
+  within : place < length old.list.items
+  within = slice_get_within old.list.items place w at
+
+  -- the others have other numbers
+  others_differ : Others (λ (x : WaitingInform). x.number ≢ inform_of e) old.list.items place
+  others_differ k d short off same =
+      let here : slice_index_or old.list.items place d ≡ w = read_at old.list.items place w d at in
+      let number : (slice_index_or old.list.items place d).number ≡ w.number = ap (λ (x : WaitingInform). x.number) here in
+      elim (cases_lt k place) [
+        | inl less ↦ let rise = stands.rise k place d less within in absurd (omega (arith, rise, number, same, of))
+        | inr least ↦ let rise = stands.rise place k d (omega (arith, least, off)) short in absurd (omega (arith, rise, number, same, of))
+      ]
+
+  others_stand : Others (InformStands new.limits new.requests (e ∷ before)) old.list.items place
+  others_stand k d short off = subst (λ (l : InformLimits). InformStands l new.requests (e ∷ before) (slice_index_or old.list.items k d)) (sym is_same.limits)
+      (stands_on old.limits e before old.requests new.requests (slice_index_or old.list.items k d) (others_differ k d short off) keeps (stands.all k d short))
+
+  pub it_stands : InformStands old.limits old.requests before w
+  it_stands = subst (InformStands old.limits old.requests before) (read_at old.list.items place w w at) (stands.all place w within)
+
+  past_on : All (λ (x : InformHappening). inform_of x < new.next) (e ∷ before)
+  past_on =
+      let less = number_known old.limits before old.next w.number w.inform w.exchange stands.past it_stands.at in
+      subst (λ (n : ℕ). All (λ (x : InformHappening). inform_of x < n) (e ∷ before)) (sym is_same.next) (All-cons (λ (x : InformHappening). inform_of x < old.next) e before (omega (arith, less, of)) stands.past)
+
+  -- the Inform is another one now
+  pub goes_on : (y : WaitingInform) → y.number ≡ w.number → new.list.items ≡ slice_set old.list.items place y → InformStands old.limits new.requests (e ∷ before) y → InformsStand (e ∷ before) new
+  goes_on y number list is =
+      let there : w ≡ slice_index_or old.list.items place w = sym (read_at old.list.items place w w at) in record {
+        all = subst (All (InformStands new.limits new.requests (e ∷ before))) (sym list) (all_set (InformStands new.limits new.requests (e ∷ before)) old.list.items place y within others_stand
+            (subst (λ (l : InformLimits). InformStands l new.requests (e ∷ before) y) (sym is_same.limits) is));
+        rise = subst (AllPairs (λ (a b : WaitingInform). a.number < b.number)) (sym list)
+            (pairs_set (λ (a b : WaitingInform). a.number < b.number) old.list.items place w y within there (λ x less. omega (arith, less, number)) (λ x less. omega (arith, less, number)) stands.rise);
+        past = past_on;
+        few = let long = length-set old.list.items place y in omega (arith, stands.few, long, is_same.most, ap length list);
+      }
+
+  -- the Inform is gone
+  pub goes_off : new.list.items ≡ remove old.list.items place → InformsStand (e ∷ before) new
+  goes_off list = record {
+    all = subst (All (InformStands new.limits new.requests (e ∷ before))) (sym list) (all_gone (InformStands new.limits new.requests (e ∷ before)) old.list.items place within others_stand);
+    rise = subst (AllPairs (λ (a b : WaitingInform). a.number < b.number)) (sym list) (all_pairs_remove (λ (a b : WaitingInform). a.number < b.number) old.list.items place within stands.rise);
+    past = past_on;
+    few = let long = length-remove old.list.items place within in omega (arith, stands.few, long, is_same.most, ap length list);
+  }
+
+-- one more comes to wait
+pub comes : (old new : Informs) (before : List InformHappening) (i : Inform) (w : WaitingInform) → new.limits ≡ old.limits → new.most ≡ old.most → new.requests ≡ old.requests → new.next ≡ old.next + 1 → w.number ≡ old.next
+    → new.list.items ≡ old.list.items ++ w ∷ [] → length old.list.items < old.most → InformStands old.limits old.requests (begins old.next i ∷ before) w → InformsStand before old → InformsStand (begins old.next i ∷ before) new
+comes old new before i w limits most requests next number list room is stands =
+    let e = begins old.next i in
+    let known : All (λ (x : WaitingInform). x.number < old.next) old.list.items = All-weaker (InformStands old.limits old.requests before) (λ (x : WaitingInform). x.number < old.next)
+    (λ x known. number_known old.limits before old.next x.number x.inform x.exchange stands.past known.at) old.list.items stands.all in
+    let on : All (InformStands old.limits old.requests (e ∷ before)) old.list.items = λ k d short.
+    stands_on old.limits e before old.requests old.requests (slice_index_or old.list.items k d) (let less = known k d short in omega (arith, less)) (keeps_all old.requests) (stands.all k d short) in record {
+      all = subst (λ (l : InformLimits). All (InformStands l new.requests (e ∷ before)) new.list.items) (sym limits)
+          (subst (λ (r : Outstanding). All (InformStands old.limits r (e ∷ before)) new.list.items) (sym requests)
+          (subst (All (InformStands old.limits old.requests (e ∷ before))) (sym list) (All-push (InformStands old.limits old.requests (e ∷ before)) old.list.items w on is)));
+      rise = subst (AllPairs (λ (a b : WaitingInform). a.number < b.number)) (sym list)
+          (all_pairs_push (λ (a b : WaitingInform). a.number < b.number) old.list.items w stands.rise (λ k d short. let less = known k d short in omega (arith, less, number)));
+      past = subst (λ (n : ℕ). All (λ (x : InformHappening). inform_of x < n) (e ∷ before)) (sym next)
+          (All-cons (λ (x : InformHappening). inform_of x < old.next + 1) e before (omega arith) (All-weaker (λ (x : InformHappening). inform_of x < old.next) (λ (x : InformHappening). inform_of x < old.next + 1) (λ x less. omega (arith, less)) before stands.past));
+      few = let long = length-append old.list.items (w ∷ []) in omega (arith, room, long, most, ap length list);
+    }
+
+-- nothing was sent of one that begins
+pub begins_well : (limits : InformLimits) (requests : Outstanding) (before : List InformHappening) (n : ℕ) (i : Inform) (w : WaitingInform) → IsNewInform n i w → InformStands limits requests (begins n i ∷ before) w
+begins_well limits requests before n i w new =
+    let known : known_of w.number (begins n i ∷ before) ≡ nothing_known = known_same w.number (begins n i) before new.number_is in record {
+      at = record {
+        is_begun = subst (λ (m : ℕ). Contains (begins n i ∷ before) (begins m w.inform)) (sym new.number_is) (subst (λ (j : Inform). Contains (begins n i ∷ before) (begins n j)) (sym new.inform_is) (latest (begins n i) before));
+        not_over = ap (λ (k : InformKnown). k.over) known;
+        first = w.exchange;
+        begun = subst (λ (j : Inform). Begins j.level Discovery w.exchange.request) (sym new.inform_is) new.begins;
+        anew = new.times;
+        run = subst (λ (steps : List ExchangeStep). IsExchangeRun limits w.exchange steps w.exchange) (sym (ap (λ (k : InformKnown). k.steps) known)) refl;
+      };
+      engine = ap (λ (k : InformKnown). k.engine) known ∙ sym new.engine;
+      located = λ m is never. absurd (never (sym (same_Some Discovery m (sym new.begins.sent.sent_is ∙ is))));
+      waits = λ token is. let wrong : None ≡ Some token = sym new.token ∙ is in cc wrong;
+    }
+
+pub few_of : (most len : ℕ) → (most ≤ len → ⊥) → len < most
+few_of most len never = elim (cases_lt len most) [
+  | inl less ↦ less
+  | inr full ↦ absurd (never full)
+]

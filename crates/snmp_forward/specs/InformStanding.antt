@@ -1,0 +1,205 @@
+-- What is known of the Informs that wait, by what happened before, and what happens by the calls.
+--
+-- `InformsStand`: all that is known of them. `ReceiverHappens`, `InformSendHappens`: what happens by a call, and that
+-- it is lawful after what happened before. `InformsStay`: what never changes. `AreAsBefore`: nothing changes.
+use Rattle.std.specs.Prelude.{◌≡◌, ◌≢◌, ◌⊎◌, ◌<◌, ◌≤◌, ◌-◌, ◌^◌, ◌/◌, ℕ, List, ◌∷◌, All, AllPairs, Some, IsSome, Ok, Err, length, remove, slice_get, slice_set}
+use Rattle.std.specs.FinMap as map
+use Rattle.snmp_message.specs.declared.refusal.Refusal.{Refusal}
+use Rattle.snmp_incoming.specs.Outcome.{Given}
+use Rattle.snmp_manager.specs.Takes.{Takes}
+use Rattle.snmp_manager.specs.declared.pending.Pending.{Pending}
+use Rattle.snmp_requests.specs.DeviceRequestRuns.{HearStep}
+use Rattle.snmp_requests.specs.Outstanding.{Outstanding, message_id_of}
+use Rattle.snmp_requests.specs.declared.device_request.Heard.{Heard}
+use Rattle.snmp_requests.specs.declared.device_request.NextStep.{NextStep}
+use Rattle.snmp_requests.specs.declared.device_request.NextStep.TheVariants as step
+use Rattle.snmp_requests.specs.declared.device_request.SentMessage.{SentMessage}
+use Rattle.snmp_requests.specs.declared.device_request.SentMessage.TheVariants.{Discovery}
+use Rattle.snmp_requests.specs.declared.outstanding.OutstandingRequest.{OutstandingRequest}
+use Rattle.snmp_forward.specs.InformHistory.{Accepted, Asked, InformEnd, InformHappening, InformSetting, IsAccepted, IsHeardIn}
+use Rattle.snmp_forward.specs.InformHistory.{IsInformLawful, StandsAt, answers, asked_with, asks, ends, inform_of}
+use Rattle.snmp_forward.specs.InformHistory.{known_of, no_token, refused, tried}
+use Rattle.snmp_forward.specs.WaitingInforms.{IsSentInform}
+use Rattle.snmp_forward.specs.declared.exchange.InformLimits.{InformLimits}
+use Rattle.snmp_forward.specs.declared.informs.InformSent.{InformSent}
+use Rattle.snmp_forward.specs.declared.informs.InformSent.TheVariants as out
+use Rattle.snmp_forward.specs.declared.informs.Informs.{Informs}
+use Rattle.snmp_forward.specs.declared.informs.ReceiverTaken.{ReceiverTaken}
+use Rattle.snmp_forward.specs.declared.informs.ReceiverTaken.TheVariants as taken
+use Rattle.snmp_forward.specs.declared.sealing.Sealing.{Sealing}
+use Rattle.snmp_forward.specs.declared.waiting_inform.WaitingInform.{WaitingInform}
+
+-- the request that waits is the very message that was sent last for the Inform
+pub record IsOwn (before : List InformHappening) (w : WaitingInform) (r : OutstandingRequest) : Type 0 where
+  pub message : SentMessage
+  pub is_asked : (known_of w.number before).asked ≡ Some (asked_with message r.pending)
+  pub is_sent : w.exchange.request.sent ≡ Some message
+
+-- so it is with the request that waits under this token
+pub record IsWaitedFor (requests : Outstanding) (before : List InformHappening) (w : WaitingInform) (token : ℕ)
+    : Type 0 where
+  pub given : token < requests.next
+  pub own : (r : OutstandingRequest) → map.get requests.requests (message_id_of token) ≡ Some r
+      → r.token ≡ token → IsOwn before w r
+
+pub record InformStands (limits : InformLimits) (requests : Outstanding) (before : List InformHappening)
+    (w : WaitingInform) : Type 0 where
+  pub at : StandsAt limits before w.number w.inform w.exchange
+  pub engine : (known_of w.number before).engine ≡ w.engine
+  pub located : (m : SentMessage) → w.exchange.request.sent ≡ Some m → m ≢ Discovery → IsSome w.engine
+  pub waits : (token : ℕ) → w.token ≡ Some token → IsWaitedFor requests before w token
+
+pub record InformsStand (before : List InformHappening) (f : Informs) : Type 0 where
+  pub all : All (InformStands f.limits f.requests before) f.list.items
+  -- their numbers rise
+  pub rise : AllPairs (λ (a b : WaitingInform). a.number < b.number) f.list.items
+  -- nothing happened to a later one
+  pub past : All (λ (e : InformHappening). inform_of e < f.next) before
+  pub few : length f.list.items ≤ f.most
+
+abbrev pub setting_of : Informs → InformSetting
+setting_of f = record { limits = f.limits; users = f.manager.users; own = f.engine }
+
+-- what happens is lawful, and all stands after it
+pub record InformHappens (old : Informs) (before : List InformHappening) (happening : InformHappening) (new : Informs)
+    : Type 0 where
+  pub lawful : IsInformLawful (setting_of old) before happening
+  pub stands : InformsStand (happening ∷ before) new
+
+-- as many wait as may, or no number is left
+abbrev pub IsFull : Informs → Type 0
+IsFull f = (f.most ≤ length f.list.items) ⊎ (f.next ≡ 2 ^ 64 - 1)
+
+-- ---- between the functions
+
+-- the requests that wait are among those of before, but for such as were given a later token
+pub record KeepsRequests (old new : Outstanding) : Type 0 where
+  pub later : old.next ≤ new.next
+  pub same : (token : ℕ) (r : OutstandingRequest) → token < old.next
+      → map.get new.requests (message_id_of token) ≡ Some r → r.token ≡ token
+      → map.get old.requests (message_id_of token) ≡ Some r
+
+-- this Inform is at this place
+abbrev pub IsAt : Informs → ℕ → WaitingInform → Type 0
+IsAt f place w = slice_get f.list.items place ≡ Some w
+
+-- an accepted message is an answer to the message that was sent last for it
+pub record IsAnswered (before : List InformHappening) (w : WaitingInform) (given : Given) (heard : Heard)
+    : Type 0 where
+  pub asked : Asked
+  pub is_asked : (known_of w.number before).asked ≡ Some asked
+  pub is_sent : w.exchange.request.sent ≡ Some asked.message
+  pub is_heard : IsHeardIn asked.pending given heard
+
+-- nothing changed but the Informs that wait, and the requests
+pub record IsSameElse (old new : Informs) : Type 0 where
+  pub engine : new.engine ≡ old.engine
+  pub manager : new.manager ≡ old.manager
+  pub limits : new.limits ≡ old.limits
+  pub most : new.most ≡ old.most
+  pub next : new.next ≡ old.next
+
+-- the Inform at this place is gone
+pub record IsRemoved (old : Informs) (place : ℕ) (w : WaitingInform) (new : Informs) : Type 0 where
+  pub at : IsAt old place w
+  pub list : new.list.items ≡ remove old.list.items place
+  pub requests : KeepsRequests old.requests new.requests
+  pub same : IsSameElse old new
+
+-- an answer is waited for to the message that is sent for the Inform at this place
+pub record WaitsForAnswer (old : Informs) (place now token : ℕ) (pending : Pending) (new : Informs) : Type 0 where
+  pub before : WaitingInform
+  pub at : IsAt old place before
+  pub after : WaitingInform
+  pub sent : IsSentInform old.limits now token before after
+  pub list : new.list.items ≡ slice_set old.list.items place after
+  pub requests : KeepsRequests old.requests new.requests
+  pub given : token < new.requests.next
+  pub waits : (r : OutstandingRequest) → map.get new.requests.requests (message_id_of token) ≡ Some r
+      → r.pending ≡ pending
+
+-- what is heard of it is lawful, whatever datagram it is that was accepted
+pub record AnswersGiven (old : Informs) (before : List InformHappening) (given : Given) (number : ℕ)
+    (Next : NextStep → Type 0) (new : Informs) : Type 0 where
+  pub heard : HearStep
+  pub next : Next heard.turn
+  pub happens : (what : Accepted) → what.given ≡ given → IsAccepted old.manager.users what
+      → InformHappens old before (answers number what heard) new
+
+-- ---- what is taken
+
+-- it goes on
+abbrev pub IsGoingOn : NextStep → Type 0
+IsGoingOn next = (next ≡ step.Wait) ⊎ ((m : SentMessage) × (next ≡ step.Send m))
+
+-- what becomes of an accepted message
+abbrev pub AnswerHappens : Informs → List InformHappening → Given → ReceiverTaken → Informs → Type 0
+AnswerHappens old before given (taken.Refused why) new = ⊥
+AnswerHappens old before given taken.NoAnswer new = InformsStand before new
+AnswerHappens old before given (taken.Heard n) new = AnswersGiven old before given n IsGoingOn new
+AnswerHappens old before given (taken.Acknowledged n) new =
+    AnswersGiven old before given n (λ next. next ≡ step.Answered) new
+AnswerHappens old before given (taken.Denied n counter) new =
+    AnswersGiven old before given n (λ next. next ≡ step.Refused counter) new
+
+-- the message that the manager accepts is an answer for the Inform of this number
+pub record HearsOf (old : Informs) (before : List InformHappening) (now : ℕ) (datagram : List ℕ) (number : ℕ)
+    (Next : NextStep → Type 0) (new : Informs) : Type 0 where
+  pub given : Given
+  pub takes : Takes old.manager (now / 1000) datagram (Some (Ok given)) new.manager
+  pub heard : HearStep
+  pub next : Next heard.turn
+  pub happens : InformHappens old before (answers number
+      (record { held = new.manager; seconds = now / 1000; datagram = datagram; given = given }) heard) new
+
+-- what becomes of a datagram
+abbrev pub ReceiverHappens : Informs → List InformHappening → ℕ → List ℕ → ReceiverTaken → Informs → Type 0
+ReceiverHappens old before now datagram (taken.Refused why) new =
+    Takes old.manager (now / 1000) datagram (Some (Err why)) new.manager × InformsStand before new
+ReceiverHappens old before now datagram taken.NoAnswer new =
+    ((given : Given) × Takes old.manager (now / 1000) datagram (Some (Ok given)) new.manager) × InformsStand before new
+ReceiverHappens old before now datagram (taken.Heard n) new = HearsOf old before now datagram n IsGoingOn new
+ReceiverHappens old before now datagram (taken.Acknowledged n) new =
+    HearsOf old before now datagram n (λ next. next ≡ step.Answered) new
+ReceiverHappens old before now datagram (taken.Denied n counter) new =
+    HearsOf old before now datagram n (λ next. next ≡ step.Refused counter) new
+
+-- ---- what goes out
+
+-- why it is given up
+abbrev pub IsGivenUp : InformEnd → Type 0
+IsGivenUp why = (why ≡ tried) ⊎ (why ≡ no_token)
+
+pub record SendsOne (old : Informs) (before : List InformHappening) (now : ℕ) (salt : List ℕ)
+    (number receiver : ℕ) (message : SentMessage) (datagram : List ℕ) (new : Informs) : Type 0 where
+  pub by : Sealing
+  pub seconds : by.seconds ≡ now / 1000
+  pub salt_is : by.salt ≡ salt
+  pub pending : Pending
+  pub happens : InformHappens old before (asks number receiver now message old.manager by pending datagram) new
+
+abbrev pub InformSendHappens : Informs → List InformHappening → ℕ → List ℕ → InformSent → Informs → Type 0
+InformSendHappens old before now salt (out.ToReceiver n receiver message datagram) new =
+    SendsOne old before now salt n receiver message datagram.items new
+InformSendHappens old before now salt (out.Unsent n receiver why) new = (message : SentMessage) × (by : Sealing)
+    × InformHappens old before (ends n now (refused message old.manager by why)) new
+InformSendHappens old before now salt (out.GivenUp n receiver hint) new = (why : InformEnd) × IsGivenUp why
+    × InformHappens old before (ends n now why) new
+InformSendHappens old before now salt out.Nothing new = InformsStand before new
+
+-- ---- what stays
+
+-- the same engine, users, limits, and as many Informs may wait
+pub record InformsStay (old new : Informs) : Type 0 where
+  pub engine : new.engine ≡ old.engine
+  pub users : new.manager.users ≡ old.manager.users
+  pub limits : new.limits ≡ old.limits
+  pub most : new.most ≡ old.most
+
+-- and all else is the same
+pub record AreAsBefore (old new : Informs) : Type 0 where
+  pub stays : InformsStay old new
+  pub manager : new.manager ≡ old.manager
+  pub requests : new.requests ≡ old.requests
+  pub list : new.list.items ≡ old.list.items
+  pub next : new.next ≡ old.next
