@@ -12,7 +12,7 @@ use Rattle.std.proofs.lemmas.Option.{same_Some, slice_get_within}
 use Rattle.snmp_gate.proofs.Pairs.{pairs_set}
 use Rattle.snmp_requests.specs.Outstanding.{IsAdded, IsEnded, IsFreeToken, Outstanding, Waits, message_id_of, without}
 use Rattle.snmp_requests.specs.declared.outstanding.OutstandingRequest.{OutstandingRequest}
-use Rattle.snmp_requests.proofs.Maps.{at_insert, at_remove}
+use Rattle.snmp_requests.proofs.Maps.{at_insert, at_remove, insert_here}
 use Rattle.snmp_manager.specs.declared.pending.Pending.{Pending}
 use Rattle.snmp_forward.specs.ExchangeRuns.{ExchangeStep, IsExchangeRun}
 use Rattle.snmp_forward.specs.InformHistory.{InformHappening, InformKnown, StandsAt, begins, inform_of, known_after, known_of, nothing_known}
@@ -56,6 +56,19 @@ keeps_added old token pending new free added = subst (KeepsRequests old) (sym ad
 pub keeps_given_up : (old new : Outstanding) (token : ℕ) (result : Bool) → MatchBool result (IsEnded old token new) ((¬ Waits old token) × (new ≡ old)) → KeepsRequests old new
 keeps_given_up old new token true ended = subst (KeepsRequests old) (sym ended.new_is) (keeps_without old (message_id_of token))
 keeps_given_up old new token false none = subst (KeepsRequests old) (sym none.1) (keeps_all old)
+
+-- one more waits, and others may not
+pub added_waits : (old : Outstanding) (token : ℕ) (pending : Pending) (middle new : Outstanding) → IsAdded old token pending middle → KeepsRequests middle new → (r : OutstandingRequest) → map.get new.requests (message_id_of token) ≡ Some r → r.token ≡ token
+    → r.pending ≡ pending
+added_waits old token pending middle new added keeps r there is =
+    let next : middle.next ≡ token + 1 = ap (λ (all : Outstanding). all.next) added.new_is in
+    let before = keeps.same token r (omega (arith, next)) there is in
+    let at : map.get middle.requests (message_id_of token) ≡ Some added.request =
+    ap (λ (all : Outstanding). map.get all.requests (message_id_of token)) added.new_is ∙ insert_here old.requests (message_id_of token) added.request in
+    ap (λ (x : OutstandingRequest). x.pending) (same_Some r added.request (sym before ∙ at)) ∙ added.request_is.pending_is
+
+pub added_given : (old : Outstanding) (token : ℕ) (pending : Pending) (middle new : Outstanding) → IsAdded old token pending middle → KeepsRequests middle new → token < new.next
+added_given old token pending middle new added keeps = omega (arith, keeps.later, ap (λ (all : Outstanding). all.next) added.new_is)
 
 -- ---- lists
 

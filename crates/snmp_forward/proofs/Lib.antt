@@ -9,3 +9,4 @@ pub mod SentInforms
 pub mod Dues
 pub mod Tokens
 pub mod InformKeeping
+pub mod InformSteps

@@ -51,14 +51,14 @@ pub data InformHappening : Type 0 where
   -- an answer is heard
   answers : (number : ℕ) (what : Accepted) (heard : HearStep) → InformHappening
   -- it ends without one
-  ends : (number now : ℕ) (why : InformEnd) → InformHappening
+  ends : (number receiver now : ℕ) (why : InformEnd) → InformHappening
 
 -- the Inform to which it happens
 abbrev pub inform_of : InformHappening → ℕ
 inform_of (begins number inform) = number
 inform_of (asks number receiver now message held by pending datagram) = number
 inform_of (answers number what heard) = number
-inform_of (ends number now why) = number
+inform_of (ends number receiver now why) = number
 
 -- ---- what is known of an Inform
 
@@ -106,7 +106,7 @@ known_after (answers number what heard) k = record {
   asked = waits_after heard.turn k.asked;
   over = is_end heard.turn;
 }
-known_after (ends number now why) k = record { steps = k.steps; engine = k.engine; asked = k.asked; over = true }
+known_after (ends number receiver now why) k = record { steps = k.steps; engine = k.engine; asked = k.asked; over = true }
 
 abbrev pub known_of : ℕ → List InformHappening → InformKnown
 known_of n [] = nothing_known
@@ -174,9 +174,10 @@ IsReason s engine inform at no_token = ⊤
 IsReason s engine inform at (refused message held by why) = (at.request.sent ≡ Some message)
     × (held.users ≡ s.users) × RefusesMessage held s.own engine inform message by why
 
-pub record IsEnd (s : InformSetting) (before : List InformHappening) (number now : ℕ) (why : InformEnd)
+pub record IsEnd (s : InformSetting) (before : List InformHappening) (number receiver now : ℕ) (why : InformEnd)
     : Type 0 where
   pub inform : Inform
+  pub to : inform.receiver ≡ receiver
   pub at : InformExchange
   pub stands : StandsAt s.limits before number inform at
   pub due : at.due ≤ now
@@ -188,7 +189,7 @@ IsInformLawful s before (begins number inform) = All (λ (e : InformHappening). 
 IsInformLawful s before (asks number receiver now message held by pending datagram) =
     IsAsk s before number receiver now message held by pending datagram
 IsInformLawful s before (answers number what heard) = IsAnswer s before number what heard
-IsInformLawful s before (ends number now why) = IsEnd s before number now why
+IsInformLawful s before (ends number receiver now why) = IsEnd s before number receiver now why
 
 abbrev pub AreInformsLawful : InformSetting → List InformHappening → Type 0
 AreInformsLawful s [] = ⊤

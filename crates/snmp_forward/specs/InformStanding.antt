@@ -2,25 +2,28 @@
 --
 -- `InformsStand`: all that is known of them. `ReceiverHappens`, `InformSendHappens`: what happens by a call, and that
 -- it is lawful after what happened before. `InformsStay`: what never changes. `AreAsBefore`: nothing changes.
-use Rattle.std.specs.Prelude.{◌≡◌, ◌≢◌, ◌⊎◌, ◌<◌, ◌≤◌, ◌-◌, ◌^◌, ◌/◌, ℕ, List, ◌∷◌, All, AllPairs, Some, IsSome, Ok, Err, length, remove, slice_get, slice_set}
+use Rattle.std.specs.Prelude.{◌≡◌, ◌≢◌, ◌⊎◌, ◌<◌, ◌≤◌, ◌-◌, ◌^◌, ◌/◌, ℕ, List, ◌∷◌, All, AllPairs, Option, Some, IsSome, Ok, Err, length, remove, slice_get, slice_set}
 use Rattle.std.specs.FinMap as map
 use Rattle.snmp_message.specs.declared.refusal.Refusal.{Refusal}
 use Rattle.snmp_incoming.specs.Outcome.{Given}
 use Rattle.snmp_manager.specs.Takes.{Takes}
 use Rattle.snmp_manager.specs.declared.pending.Pending.{Pending}
 use Rattle.snmp_requests.specs.DeviceRequestRuns.{HearStep}
-use Rattle.snmp_requests.specs.Outstanding.{Outstanding, message_id_of}
+use Rattle.snmp_requests.specs.Outstanding.{HasNoToken, Outstanding, message_id_of}
 use Rattle.snmp_requests.specs.declared.device_request.Heard.{Heard}
 use Rattle.snmp_requests.specs.declared.device_request.NextStep.{NextStep}
 use Rattle.snmp_requests.specs.declared.device_request.NextStep.TheVariants as step
 use Rattle.snmp_requests.specs.declared.device_request.SentMessage.{SentMessage}
 use Rattle.snmp_requests.specs.declared.device_request.SentMessage.TheVariants.{Discovery}
 use Rattle.snmp_requests.specs.declared.outstanding.OutstandingRequest.{OutstandingRequest}
+use Rattle.snmp_requests.specs.declared.outstanding.TheConstants.{REQUESTS_LIMIT}
 use Rattle.snmp_forward.specs.InformHistory.{Accepted, Asked, InformEnd, InformHappening, InformSetting, IsAccepted, IsHeardIn}
 use Rattle.snmp_forward.specs.InformHistory.{IsInformLawful, StandsAt, answers, asked_with, asks, ends, inform_of}
 use Rattle.snmp_forward.specs.InformHistory.{known_of, no_token, refused, tried}
 use Rattle.snmp_forward.specs.WaitingInforms.{IsSentInform}
 use Rattle.snmp_forward.specs.declared.exchange.InformLimits.{InformLimits}
+use Rattle.snmp_forward.specs.declared.exchange.InformExchange.{InformExchange}
+use Rattle.snmp_forward.specs.declared.inform.Inform.{Inform}
 use Rattle.snmp_forward.specs.declared.informs.InformSent.{InformSent}
 use Rattle.snmp_forward.specs.declared.informs.InformSent.TheVariants as out
 use Rattle.snmp_forward.specs.declared.informs.Informs.{Informs}
@@ -116,7 +119,7 @@ pub record WaitsForAnswer (old : Informs) (place now token : ℕ) (pending : Pen
   pub requests : KeepsRequests old.requests new.requests
   pub given : token < new.requests.next
   pub waits : (r : OutstandingRequest) → map.get new.requests.requests (message_id_of token) ≡ Some r
-      → r.pending ≡ pending
+      → r.token ≡ token → r.pending ≡ pending
 
 -- what is heard of it is lawful, whatever datagram it is that was accepted
 pub record AnswersGiven (old : Informs) (before : List InformHappening) (given : Given) (number : ℕ)
@@ -166,9 +169,24 @@ ReceiverHappens old before now datagram (taken.Denied n counter) new =
 
 -- ---- what goes out
 
+-- as many messages wait for answers as may, or there is no token left
+abbrev pub HasNoRoom : Outstanding → ℕ → Type 0
+HasNoRoom requests first_id = (REQUESTS_LIMIT ≤ map.len requests.requests) ⊎ HasNoToken requests first_id
+
 -- why it is given up
-abbrev pub IsGivenUp : InformEnd → Type 0
-IsGivenUp why = (why ≡ tried) ⊎ (why ≡ no_token)
+abbrev pub IsGivenUp : Outstanding → ℕ → InformEnd → Type 0
+IsGivenUp requests first_id why = (why ≡ tried) ⊎ ((why ≡ no_token) × HasNoRoom requests first_id)
+
+-- it is given up, and this is likely to be why it has no answer
+pub record GivesUpOne (old : Informs) (before : List InformHappening) (now first_id : ℕ) (number receiver : ℕ)
+    (hint : Option ℕ) (new : Informs) : Type 0 where
+  pub inform : Inform
+  pub at : InformExchange
+  pub stands : StandsAt old.limits before number inform at
+  pub hint_is : hint ≡ at.request.hint
+  pub why : InformEnd
+  pub is_given_up : IsGivenUp old.requests first_id why
+  pub happens : InformHappens old before (ends number receiver now why) new
 
 pub record SendsOne (old : Informs) (before : List InformHappening) (now : ℕ) (salt : List ℕ)
     (number receiver : ℕ) (message : SentMessage) (datagram : List ℕ) (new : Informs) : Type 0 where
@@ -178,14 +196,14 @@ pub record SendsOne (old : Informs) (before : List InformHappening) (now : ℕ) 
   pub pending : Pending
   pub happens : InformHappens old before (asks number receiver now message old.manager by pending datagram) new
 
-abbrev pub InformSendHappens : Informs → List InformHappening → ℕ → List ℕ → InformSent → Informs → Type 0
-InformSendHappens old before now salt (out.ToReceiver n receiver message datagram) new =
+abbrev pub InformSendHappens : Informs → List InformHappening → ℕ → List ℕ → ℕ → InformSent → Informs → Type 0
+InformSendHappens old before now salt first_id (out.ToReceiver n receiver message datagram) new =
     SendsOne old before now salt n receiver message datagram.items new
-InformSendHappens old before now salt (out.Unsent n receiver why) new = (message : SentMessage) × (by : Sealing)
-    × InformHappens old before (ends n now (refused message old.manager by why)) new
-InformSendHappens old before now salt (out.GivenUp n receiver hint) new = (why : InformEnd) × IsGivenUp why
-    × InformHappens old before (ends n now why) new
-InformSendHappens old before now salt out.Nothing new = InformsStand before new
+InformSendHappens old before now salt first_id (out.Unsent n receiver why) new = (message : SentMessage) × (by : Sealing)
+    × InformHappens old before (ends n receiver now (refused message old.manager by why)) new
+InformSendHappens old before now salt first_id (out.GivenUp n receiver hint) new =
+    GivesUpOne old before now first_id n receiver hint new
+InformSendHappens old before now salt first_id out.Nothing new = InformsStand before new
 
 -- ---- what stays
 

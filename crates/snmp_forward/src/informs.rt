@@ -1,6 +1,6 @@
 //! Informs: what is sent to receivers that acknowledge it, and what comes from them (RFC 3413, section 3.3).
 
-ghost use Rattle.std.specs.Prelude.{◌≡◌, ◌≢◌, ◌↔◌, ◌≤◌, ◌<◌, [], ℕ, All, IfOk, IfSome, IsTrue, List, MatchOption};
+ghost use Rattle.std.specs.Prelude.{◌≡◌, ◌≢◌, ◌↔◌, ◌≤◌, ◌<◌, [], ℕ, All, IfOk, IsTrue, List, MatchOption};
 ghost use Rattle.std.specs.Prelude.{OnErr, OnOk, length};
 ghost use Rattle.std.specs.FinMap as map;
 ghost use Rattle.std.specs.List.{HoldsAt};
@@ -11,10 +11,10 @@ ghost use Rattle.snmp_requests.specs.Outstanding.{IsFreeToken, message_id_of};
 ghost use Rattle.snmp_requests.specs.declared.outstanding.TheConstants.{REQUESTS_LIMIT};
 ghost use Rattle.snmp_forward.specs.Exchange.{MayBeTried};
 ghost use Rattle.snmp_forward.specs.InformHistory.{InformEnd, InformHappening, IsReason, begins};
-ghost use Rattle.snmp_forward.specs.InformStanding.{AnswerHappens, AreAsBefore, InformHappens, InformSendHappens};
-ghost use Rattle.snmp_forward.specs.InformStanding.{InformsStand, InformsStay, IsAnswered, IsAt, IsFull, IsGivenUp};
-ghost use Rattle.snmp_forward.specs.InformStanding.{IsRemoved, IsSameElse, ReceiverHappens, WaitsForAnswer};
-ghost use Rattle.snmp_forward.specs.InformStanding.{setting_of};
+ghost use Rattle.snmp_forward.specs.InformStanding.{AnswerHappens, AreAsBefore, HasNoRoom, InformHappens};
+ghost use Rattle.snmp_forward.specs.InformStanding.{InformSendHappens, InformsStand, InformsStay, IsAnswered, IsAt, IsFull, IsGivenUp};
+ghost use Rattle.snmp_forward.specs.InformStanding.{IsRemoved, IsSameElse, KeepsRequests, ReceiverHappens};
+ghost use Rattle.snmp_forward.specs.InformStanding.{WaitsForAnswer, setting_of};
 ghost use Rattle.snmp_forward.specs.WaitingInforms.{IsAddressed, IsDue, IsFirstDue};
 
 use crate::asking::AskedWith;
@@ -95,6 +95,15 @@ pub struct Informs {
     pub(crate) next: u64,
     pub(crate) most: usize,
     pub(crate) limits: InformLimits,
+}
+
+/// The message with this token isn't waited for any more.
+fn forget(requests: &mut OutstandingRequests, token: Option<u64>)
+    ensures { KeepsRequests requests.old requests.new }
+{
+    if let Some(token) = token {
+        requests.give_up(token);
+    }
 }
 
 impl Informs {
@@ -247,7 +256,7 @@ impl Informs {
     ) -> Result<InformSent, AllocError>
         requires first { first_id ≤ MAX_INTEGER32 }
         ensures happens { IfOk result (λ sent. (before : List InformHappening) → InformsStand before self.old
-            → InformSendHappens self.old before now salt sent self.new) }
+            → InformSendHappens self.old before now salt first_id sent self.new) }
         ensures nothing { IfOk result (λ sent. sent ≡ InformSent.Nothing
             → All (λ w. ¬ IsDue now w) self.old.list.items) }
         ensures stays { InformsStay self.old self.new }
@@ -269,19 +278,18 @@ impl Informs {
         ensures { IsRemoved self.old place result self.new }
     {
         let waiting = self.list.remove(place);
-        if let Some(token) = waiting.token {
-            self.requests.give_up(token);
-        }
+        forget(&mut self.requests, waiting.token);
         waiting
     }
 
     /// The Inform at this place is given up.
     fn give_up(&mut self, place: usize) -> InformSent
         requires place { place < length self.old.list.items }
-        ensures happens { (before : List InformHappening) (now : ℕ) (salt : List ℕ) (w : WaitingInform)
+        ensures happens { (before : List InformHappening) (now first_id : ℕ) (salt : List ℕ) (w : WaitingInform)
             (why : InformEnd) → InformsStand before self.old → IsAt self.old place w → w.exchange.due ≤ now
-            → IsGivenUp why → IsReason (setting_of self.old) w.engine w.inform w.exchange why
-            → InformSendHappens self.old before now salt result self.new }
+            → IsGivenUp self.old.requests first_id why
+            → IsReason (setting_of self.old) w.engine w.inform w.exchange why
+            → InformSendHappens self.old before now salt first_id result self.new }
         ensures something { result ≢ InformSent.Nothing }
         ensures same { IsSameElse self.old self.new }
     {
@@ -296,8 +304,8 @@ impl Informs {
     /// Returns the token of the message that is sent next. None: as many wait for answers as may, or no token is left.
     fn token(&self, first_id: u32) -> Option<u64>
         requires { first_id ≤ MAX_INTEGER32 }
-        ensures { IfSome result (λ token. (map.len self.now.requests.requests < REQUESTS_LIMIT)
-            × IsFreeToken self.now.requests token) }
+        ensures { MatchOption result (HasNoRoom self.now.requests first_id)
+            (λ token. (map.len self.now.requests.requests < REQUESTS_LIMIT) × IsFreeToken self.now.requests token) }
     {
         if self.requests.is_full() {
             return None;
@@ -315,10 +323,11 @@ impl Informs {
         first_id: u32,
     ) -> Result<InformSent, AllocError>
         requires first { first_id ≤ MAX_INTEGER32 }
+        requires place { place < length self.old.list.items }
         requires may { HoldsAt (λ w. MayBeTried self.old.limits w.exchange message) self.old.list.items place }
         ensures happens { IfOk result (λ sent. (before : List InformHappening) (w : WaitingInform)
             → InformsStand before self.old → IsAt self.old place w → w.exchange.due ≤ now
-            → InformSendHappens self.old before now salt sent self.new) }
+            → InformSendHappens self.old before now salt first_id sent self.new) }
         ensures something { IfOk result (λ sent. sent ≢ InformSent.Nothing) }
         ensures same { IsSameElse self.old self.new }
         ensures err { OnErr result (AreAsBefore self.old self.new) }
@@ -367,6 +376,7 @@ impl Informs {
         token: u64,
         pending: Pending,
     ) -> Result<(), AllocError>
+        requires place { place < length self.old.list.items }
         requires may { HoldsAt (λ w. MayBeTried self.old.limits w.exchange message) self.old.list.items place }
         requires room { map.len self.old.requests.requests < REQUESTS_LIMIT }
         requires token { IsFreeToken self.old.requests token }
@@ -380,9 +390,7 @@ impl Informs {
         let waiting = &mut self.list[place];
         let (engine, user) = waiting.addressed(message);
         self.requests.add(token, pending, engine, user)?;
-        if let Some(before) = waiting.token {
-            self.requests.give_up(before);
-        }
+        forget(&mut self.requests, waiting.token);
         waiting.sent(&self.limits, now, token);
         Ok(())
     }
