@@ -72,7 +72,7 @@ added_given old token pending middle new added keeps = omega (arith, keeps.later
 
 -- ---- lists
 
-read_at : {A : Type 0} (xs : List A) (n : ℕ) (x d : A) → slice_get xs n ≡ Some x → slice_index_or xs n d ≡ x
+pub read_at : {A : Type 0} (xs : List A) (n : ℕ) (x d : A) → slice_get xs n ≡ Some x → slice_index_or xs n d ≡ x
 read_at [] n x d is = absurd (cc is)
 read_at (y ∷ ys) zero x d is = same_Some y x is
 read_at (y ∷ ys) (suc n) x d is = read_at ys n x d is

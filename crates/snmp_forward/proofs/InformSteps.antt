@@ -1,9 +1,12 @@
 -- What happens to an Inform that waits.
-use Rattle.std.specs.Prelude.{◌≡◌, ◌≢◌, ◌<◌, ◌≤◌, ◌+◌, ℕ, Bool, true, false, List, ◌∷◌, Contains, Option, Some, None, IsSome, slice_set, remove}
+use Rattle.std.specs.Prelude.{◌≡◌, ◌≢◌, ◌<◌, ◌≤◌, ◌+◌, ℕ, Bool, true, false, List, ◌∷◌, Contains, Option, Some, None, IsSome, slice_set, remove, ◌/◌}
 use Rattle.std.specs.FinMap as map
+use Rattle.std.specs.Global.{Vec}
+use Rattle.std.specs.List.{HoldsAt}
 use Rattle.std.proofs.Common.{refl, sym, ap, subst, ◌∙◌, inl, inr, arith}
 use Rattle.std.proofs.lemmas.Option.{same_Some}
 use Rattle.snmp_incoming.specs.Outcome.{Given}
+use Rattle.snmp_message.specs.declared.refusal.Refusal.{Refusal}
 use Rattle.snmp_manager.specs.declared.pending.Pending.{Pending}
 use Rattle.snmp_manager.specs.Views.{Held}
 use Rattle.snmp_requests.specs.DeviceRequestRuns.{HearStep}
@@ -18,9 +21,9 @@ use Rattle.snmp_requests.specs.declared.device_request.SentMessage.TheVariants.{
 use Rattle.snmp_requests.specs.declared.outstanding.OutstandingRequest.{OutstandingRequest}
 use Rattle.snmp_forward.specs.Exchange.{MayBeTried}
 use Rattle.snmp_forward.specs.ExchangeRuns.{ExchangeStep, IsExchangeRun}
-use Rattle.snmp_forward.specs.InformHistory.{Accepted, Asked, InformEnd, InformHappening, InformKnown, IsAccepted, IsReason, StandsAt, answers, asked_with, asks, begins, ends, inform_of, is_end, known_after, known_of, message_of, no_token, tried}
-use Rattle.snmp_forward.specs.InformStanding.{GivesUpOne, InformHappens, InformSendHappens, InformStands, InformsStand, IsAnswered, IsAt, IsGivenUp, IsRemoved, IsSameElse, IsWaitedFor, KeepsRequests, setting_of}
-use Rattle.snmp_forward.specs.WaitingInforms.{HearsInform, IsSentInform, SendsMessage, engine_after, waits_after}
+use Rattle.snmp_forward.specs.InformHistory.{Accepted, Asked, InformEnd, InformHappening, InformKnown, IsAccepted, IsReason, StandsAt, answers, asked_with, asks, begins, ends, inform_of, is_end, known_after, known_of, message_of, no_token, refused, tried}
+use Rattle.snmp_forward.specs.InformStanding.{GivesUpOne, InformHappens, InformSendHappens, InformStands, InformsStand, IsAnswered, IsAt, IsGivenUp, IsRemoved, IsSameElse, IsWaitedFor, KeepsRequests, WaitsForAnswer, setting_of}
+use Rattle.snmp_forward.specs.WaitingInforms.{HearsInform, IsAddressed, IsSentInform, RefusesMessage, SendsMessage, engine_after, waits_after}
 use Rattle.snmp_forward.specs.declared.exchange.InformExchange.{InformExchange}
 use Rattle.snmp_forward.specs.declared.exchange.InformLimits.{InformLimits}
 use Rattle.snmp_forward.specs.declared.inform.Inform.{Inform}
@@ -29,7 +32,7 @@ use Rattle.snmp_forward.specs.declared.informs.InformSent.TheVariants as out
 use Rattle.snmp_forward.specs.declared.informs.Informs.{Informs}
 use Rattle.snmp_forward.specs.declared.sealing.Sealing.{Sealing}
 use Rattle.snmp_forward.specs.declared.waiting_inform.WaitingInform.{WaitingInform}
-use Rattle.snmp_forward.proofs.InformKeeping.{goes_off, it_stands, known_same, later}
+use Rattle.snmp_forward.proofs.InformKeeping.{goes_off, goes_on, it_stands, known_same, later, read_at}
 
 -- ---- an Inform ends without an answer
 
@@ -66,3 +69,124 @@ gives_up_one old new before place now first_id x w why gone at due given_up reas
       happens = ends_one old new before place now x why gone (subst (λ (y : WaitingInform). y.exchange.due ≤ now) same due)
           (subst (λ (y : WaitingInform). IsReason (setting_of old) y.engine y.inform y.exchange why) same reason) stands;
     }
+
+-- ---- a message is sent
+
+pub sends_id : (held : Held) (own : List ℕ) (engine : Option (List ℕ)) (inform : Inform) (m : SentMessage) (by : Sealing) (pending : Pending) (w : List ℕ) → SendsMessage held own engine inform m by pending w → pending.id ≡ by.id
+sends_id held own None inform m by pending w is = is.1.id_is
+sends_id held own (Some engine) inform Discovery by pending w is = is.1.id_is
+sends_id held own (Some engine) inform TimeRequest by pending w is = is.1.id_is
+sends_id held own (Some engine) inform Request by pending w is = is.remembers.id_is
+
+pub sends_addressed : (held : Held) (own : List ℕ) (engine : Option (List ℕ)) (inform : Inform) (m : SentMessage) (by : Sealing) (pending : Pending) (w : List ℕ) → SendsMessage held own engine inform m by pending w
+    → IsAddressed engine inform m pending.engine.items pending.user.items
+sends_addressed held own None inform m by pending w is = (is.1.engine_is, is.1.user_is)
+sends_addressed held own (Some engine) inform Discovery by pending w is = (is.1.engine_is, is.1.user_is)
+sends_addressed held own (Some engine) inform TimeRequest by pending w is = (is.1.engine_is, is.1.user_is)
+sends_addressed held own (Some engine) inform Request by pending w is = (is.remembers.engine_is, is.remembers.user_is)
+
+-- where one stands, by another name for its number and itself
+stands_as : (limits : InformLimits) (before : List InformHappening) (n k : ℕ) (i j : Inform) (x : InformExchange) → k ≡ n → j ≡ i → StandsAt limits before n i x → StandsAt limits before k j x
+stands_as limits before n k i j x number inform at =
+    subst (λ (m : ℕ). StandsAt limits before m j x) (sym number) (subst (λ (z : Inform). StandsAt limits before n z x) (sym inform) at)
+
+module _ (limits : InformLimits) (old new : Outstanding) (before : List InformHappening) (w y : WaitingInform) (now token : ℕ) (m : SentMessage) (held : Held) (by : Sealing) (pending : Pending) (datagram : List ℕ) (sent : IsSentInform limits now token w y)
+    (due : w.exchange.due ≤ now) (may : MayBeTried limits w.exchange m) (given : token < new.next) (waits : (r : OutstandingRequest) → map.get new.requests (message_id_of token) ≡ Some r → r.token ≡ token → r.pending ≡ pending)
+    (stands : InformStands limits old before w) where
+  abbrev asked_now : InformHappening
+  asked_now = asks w.number w.inform.receiver now m held by pending datagram
+
+  known_now : known_of w.number (asked_now ∷ before) ≡ known_after asked_now (known_of w.number before)
+  known_now = known_same w.number asked_now before refl
+
+  known_there : known_of y.number (asked_now ∷ before) ≡ known_after asked_now (known_of w.number before)
+  known_there = ap (λ (n : ℕ). known_of n (asked_now ∷ before)) sent.number ∙ known_now
+
+  asked_at : StandsAt limits (asked_now ∷ before) w.number w.inform y.exchange
+  asked_at = record {
+    is_begun = later (begins w.number w.inform) asked_now before stands.at.is_begun;
+    not_over = ap (λ (k : InformKnown). k.over) known_now ∙ stands.at.not_over;
+    first = stands.at.first;
+    begun = stands.at.begun;
+    anew = stands.at.anew;
+    run = subst (λ (steps : List ExchangeStep). IsExchangeRun limits stands.at.first steps y.exchange) (sym (ap (λ (k : InformKnown). k.steps) known_now)) (w.exchange, stands.at.run, (due, may, sent.sent));
+  }
+
+  sent_same : y.exchange.request.sent ≡ w.exchange.request.sent
+  sent_same = ap (λ (r : DeviceRequest). r.sent) sent.sent.request
+
+  pub asks_stand : InformStands limits new (asked_now ∷ before) y
+  asks_stand = record {
+    at = stands_as limits (asked_now ∷ before) w.number y.number w.inform y.inform y.exchange sent.number sent.inform asked_at;
+    engine = ap (λ (k : InformKnown). k.engine) known_there ∙ (stands.engine ∙ sym sent.engine);
+    located = λ n is never. subst (λ (e : Option (List ℕ)). IsSome e) (sym sent.engine) (stands.located n (sym sent_same ∙ is) never);
+    waits = λ t is.
+        let same : t ≡ token = same_Some t token (sym is ∙ sent.token_is) in
+        subst (λ (k : ℕ). IsWaitedFor new (asked_now ∷ before) y k) (sym same) (record {
+          given = given;
+          own = λ r there of. record {
+            message = m;
+            is_asked = ap (λ (k : InformKnown). k.asked) known_there ∙ ap (λ (a : Pending). Some (asked_with m a)) (sym (waits r there of));
+            is_sent = sent_same ∙ may.asked;
+          };
+        });
+  }
+
+pub asks_one : (old new : Informs) (before : List InformHappening) (place now token : ℕ) (w : WaitingInform) (m : SentMessage) (by : Sealing) (pending : Pending) (datagram : List ℕ) → WaitsForAnswer old place now token pending new → IsSameElse old new → IsAt old place w
+    → w.exchange.due ≤ now → MayBeTried old.limits w.exchange m → SendsMessage old.manager old.engine w.engine w.inform m by pending datagram → InformsStand before old → InformHappens old before (asks w.number w.inform.receiver now m old.manager by pending datagram) new
+asks_one old new before place now token w m by pending datagram waits else at due may goes stands =
+    let it = stands_there old before place w at stands in
+    let one : waits.before ≡ w = same_Some waits.before w (sym waits.at ∙ at) in
+    let sent = subst (λ (x : WaitingInform). IsSentInform old.limits now token x waits.after) one waits.sent in record {
+      lawful = record {
+        inform = w.inform;
+        to = refl;
+        at = w.exchange;
+        stands = it.at;
+        due = due;
+        may = may;
+        known = λ never. subst (λ (e : Option (List ℕ)). IsSome e) (sym it.engine) (it.located m may.asked never);
+        users = refl;
+        goes = subst (λ (e : Option (List ℕ)). SendsMessage old.manager old.engine e w.inform m by pending datagram) (sym it.engine) goes;
+      };
+      stands = goes_on old new before (asks w.number w.inform.receiver now m old.manager by pending datagram) place w else at refl waits.requests stands waits.after sent.number waits.list
+          (asks_stand old.limits old.requests new.requests before w waits.after now token m old.manager by pending datagram sent due may waits.given waits.waits it);
+    }
+
+pub refuses_one : (old new : Informs) (before : List InformHappening) (place now : ℕ) (x w : WaitingInform) (m : SentMessage) (by : Sealing) (why : Refusal) → IsRemoved old place x new → IsAt old place w → w.exchange.due ≤ now → MayBeTried old.limits w.exchange m
+    → RefusesMessage old.manager old.engine w.engine w.inform m by why → InformsStand before old → InformHappens old before (ends w.number w.inform.receiver now (refused m old.manager by why)) new
+refuses_one old new before place now x w m by why gone at due may refuses stands =
+    let one : x ≡ w = same_Some x w (sym gone.at ∙ at) in
+    ends_one old new before place now w (refused m old.manager by why) (subst (λ (y : WaitingInform). IsRemoved old place y new) one gone) due (may.asked, refl, refuses) stands
+
+-- ---- by the calls
+
+-- the same Informs with this manager
+abbrev pub with_manager : Informs → Held → Informs
+with_manager f m = record { alloc = f.alloc; engine = f.engine; manager = m; requests = f.requests; list = f.list; next = f.next; most = f.most; limits = f.limits }
+
+pub may_there : (f : Informs) (place : ℕ) (m : SentMessage) (w : WaitingInform) → HoldsAt (λ (x : WaitingInform). MayBeTried f.limits x.exchange m) f.list.items place → IsAt f place w → MayBeTried f.limits w.exchange m
+may_there f place m w may at = subst (λ (x : WaitingInform). MayBeTried f.limits x.exchange m) (read_at f.list.items place w w at) (may w)
+
+pub sends_one : (old new : Informs) (held : Held) (before : List InformHappening) (place now token first_id : ℕ) (salt : List ℕ) (x w : WaitingInform) (m : SentMessage) (by : Sealing) (pending : Pending) (datagram : Vec ℕ) → held ≡ old.manager
+    → WaitsForAnswer (with_manager old held) place now token pending new → IsSameElse (with_manager old held) new → IsAt old place x → by.seconds ≡ now / 1000 → by.salt ≡ salt → HoldsAt (λ (y : WaitingInform). MayBeTried old.limits y.exchange m) old.list.items place
+    → SendsMessage old.manager old.engine x.engine x.inform m by pending datagram.items → IsAt old place w → w.exchange.due ≤ now → InformsStand before old
+    → InformSendHappens old before now salt first_id (out.ToReceiver x.number x.inform.receiver m datagram) new
+sends_one old new held before place now token first_id salt x w m by pending datagram same waits else there seconds salt_is may goes at due stands =
+    let one : w ≡ x = same_Some w x (sym at ∙ there) in record {
+      by = by;
+      seconds = seconds;
+      salt_is = salt_is;
+      pending = pending;
+      happens = asks_one old new before place now token x m by pending datagram.items (subst (λ (h : Held). WaitsForAnswer (with_manager old h) place now token pending new) same waits)
+          (subst (λ (h : Held). IsSameElse (with_manager old h) new) same else) there (subst (λ (y : WaitingInform). y.exchange.due ≤ now) one due) (may_there old place m x may there) goes stands;
+    }
+
+pub unsent_one : (old new : Informs) (held : Held) (before : List InformHappening) (place now first_id : ℕ) (salt : List ℕ) (gone x w : WaitingInform) (m : SentMessage) (by : Sealing) (why : Refusal) → held ≡ old.manager
+    → IsRemoved (with_manager old held) place gone new → IsAt old place x → HoldsAt (λ (y : WaitingInform). MayBeTried old.limits y.exchange m) old.list.items place → RefusesMessage old.manager old.engine x.engine x.inform m by why
+    → IsAt old place w → w.exchange.due ≤ now → InformsStand before old → InformSendHappens old before now salt first_id (out.Unsent x.number x.inform.receiver why) new
+unsent_one old new held before place now first_id salt gone x w m by why same removed there may refuses at due stands =
+    let one : w ≡ x = same_Some w x (sym at ∙ there) in
+    (m, by, refuses_one old new before place now gone x m by why (subst (λ (h : Held). IsRemoved (with_manager old h) place gone new) same removed) there (subst (λ (y : WaitingInform). y.exchange.due ≤ now) one due)
+    (may_there old place m x may there) refuses stands)
+

@@ -341,25 +341,25 @@ impl Informs {
             salt,
         };
         let waiting = &self.list[place];
+        let (number, receiver) = (waiting.number, waiting.inform.receiver);
         match waiting.write(self.alloc, &mut self.manager, &self.engine, message, &by)? {
             AskedWith::Sends {
                 datagram,
                 pending,
             } => {
                 self.wait_for(place, message, now, token, pending)?;
-                let waiting = &self.list[place];
                 Ok(InformSent::ToReceiver {
-                    number: waiting.number,
-                    receiver: waiting.inform.receiver,
+                    number,
+                    receiver,
                     message,
                     datagram,
                 })
             }
             AskedWith::Refused(why) => {
-                let waiting = self.remove(place);
+                self.remove(place);
                 Ok(InformSent::Unsent {
-                    number: waiting.number,
-                    receiver: waiting.inform.receiver,
+                    number,
+                    receiver,
                     why,
                 })
             }
