@@ -97,6 +97,11 @@ all_gone Q xs place within others k d short =
       | inr least ↦ subst Q (sym (get_or-remove_above xs place d k least within)) (others (k + 1) d (omega (arith, short, long)) (omega (arith, least)))
     ]
 
+pub remove_set : {A : Type 0} (xs : List A) (place : ℕ) (y : A) → remove (slice_set xs place y) place ≡ remove xs place
+remove_set [] place y = refl
+remove_set (x ∷ xs) zero y = refl
+remove_set (x ∷ xs) (suc place) y = ap (λ (zs : List _). x ∷ zs) (remove_set xs place y)
+
 -- ---- what is known of an Inform
 
 pub later : {A : Type 0} (x y : A) (xs : List A) → Contains xs x → Contains (y ∷ xs) x

@@ -21,8 +21,8 @@ use Rattle.snmp_requests.specs.declared.device_request.SentMessage.TheVariants.{
 use Rattle.snmp_requests.specs.declared.outstanding.OutstandingRequest.{OutstandingRequest}
 use Rattle.snmp_forward.specs.Exchange.{MayBeTried}
 use Rattle.snmp_forward.specs.ExchangeRuns.{ExchangeStep, IsExchangeRun}
-use Rattle.snmp_forward.specs.InformHistory.{Accepted, Asked, InformEnd, InformHappening, InformKnown, IsAccepted, IsReason, StandsAt, answers, asked_with, asks, begins, ends, inform_of, is_end, known_after, known_of, message_of, no_token, refused, tried}
-use Rattle.snmp_forward.specs.InformStanding.{GivesUpOne, InformHappens, InformSendHappens, InformStands, InformsStand, IsAnswered, IsAt, IsGivenUp, IsRemoved, IsSameElse, IsWaitedFor, KeepsRequests, WaitsForAnswer, setting_of}
+use Rattle.snmp_forward.specs.InformHistory.{Accepted, Asked, InformEnd, InformHappening, InformKnown, IsAccepted, IsAnswer, IsHeardIn, IsReason, StandsAt, answers, asked_with, asks, begins, ends, inform_of, is_end, known_after, known_of, message_of, no_token, refused, tried}
+use Rattle.snmp_forward.specs.InformStanding.{AnswersGiven, GivesUpOne, InformHappens, InformSendHappens, InformStands, InformsStand, IsAnswered, IsAt, IsGivenUp, IsOwn, IsRemoved, IsSameElse, IsWaitedFor, KeepsRequests, WaitsForAnswer, setting_of}
 use Rattle.snmp_forward.specs.WaitingInforms.{HearsInform, IsAddressed, IsSentInform, RefusesMessage, SendsMessage, engine_after, waits_after}
 use Rattle.snmp_forward.specs.declared.exchange.InformExchange.{InformExchange}
 use Rattle.snmp_forward.specs.declared.exchange.InformLimits.{InformLimits}
@@ -32,7 +32,7 @@ use Rattle.snmp_forward.specs.declared.informs.InformSent.TheVariants as out
 use Rattle.snmp_forward.specs.declared.informs.Informs.{Informs}
 use Rattle.snmp_forward.specs.declared.sealing.Sealing.{Sealing}
 use Rattle.snmp_forward.specs.declared.waiting_inform.WaitingInform.{WaitingInform}
-use Rattle.snmp_forward.proofs.InformKeeping.{goes_off, goes_on, it_stands, known_same, later, read_at}
+use Rattle.snmp_forward.proofs.InformKeeping.{goes_off, goes_on, it_stands, known_same, later, read_at, remove_set}
 
 -- ---- an Inform ends without an answer
 
@@ -190,3 +190,151 @@ unsent_one old new held before place now first_id salt gone x w m by why same re
     (m, by, refuses_one old new before place now gone x m by why (subst (λ (h : Held). IsRemoved (with_manager old h) place gone new) same removed) there (subst (λ (y : WaitingInform). y.exchange.due ≤ now) one due)
     (may_there old place m x may there) refuses stands)
 
+
+-- ---- an answer is heard
+
+engine_wait : (sent : Option SentMessage) (engine : List ℕ) (known : Option (List ℕ)) → engine_after sent Wait engine known ≡ known
+engine_wait None engine known = refl
+engine_wait (Some Discovery) engine known = refl
+engine_wait (Some TimeRequest) engine known = refl
+engine_wait (Some Request) engine known = refl
+
+none_some : (t : ℕ) → None ≡ Some t → ⊥
+none_some t e = cc e
+
+not_end : true ≡ false → ⊥
+not_end e = cc e
+
+-- what is heard, with what was to be done
+abbrev pub heard_as : Heard → Bool → NextStep → HearStep
+heard_as heard holds next = record { heard = heard; holds_clock = holds; turn = next }
+
+module _ (limits : InformLimits) (old new : Outstanding) (before : List InformHappening) (w y : WaitingInform) (given : Given) (heard : Heard) (holds : Bool) (engine : List ℕ) (what : Accepted) (of : given.engine ≡ engine) (whats : what.given ≡ given)
+    (is_answer : IsAnswered before w given heard) (keeps : KeepsRequests old new) (stands : InformStands limits old before w) where
+  abbrev heard_now : NextStep → InformHappening
+  heard_now next = answers w.number what (heard_as heard holds next)
+
+  known_then : (next : NextStep) → known_of w.number (heard_now next ∷ before) ≡ known_after (heard_now next) (known_of w.number before)
+  known_then next = known_same w.number (heard_now next) before refl
+
+  known_on : (next : NextStep) → HearsInform w heard holds engine next y → known_of y.number (heard_now next ∷ before) ≡ known_after (heard_now next) (known_of w.number before)
+  known_on next hears = ap (λ (n : ℕ). known_of n (heard_now next ∷ before)) hears.number ∙ known_then next
+
+  heard_at : (next : NextStep) → HearsInform w heard holds engine next y → is_end next ≡ false → StandsAt limits (heard_now next ∷ before) w.number w.inform y.exchange
+  heard_at next hears on = record {
+    is_begun = later (begins w.number w.inform) (heard_now next) before stands.at.is_begun;
+    not_over = ap (λ (k : InformKnown). k.over) (known_then next) ∙ on;
+    first = stands.at.first;
+    begun = stands.at.begun;
+    anew = stands.at.anew;
+    run = subst (λ (steps : List ExchangeStep). IsExchangeRun limits stands.at.first steps y.exchange) (sym (ap (λ (k : InformKnown). k.steps) (known_then next))) (w.exchange, stands.at.run, hears.hears);
+  }
+
+  heard_engine : (next : NextStep) → HearsInform w heard holds engine next y → (known_of y.number (heard_now next ∷ before)).engine ≡ y.engine
+  heard_engine next hears =
+      let sent : message_of (known_of w.number before).asked ≡ w.exchange.request.sent = ap message_of is_answer.is_asked ∙ sym is_answer.is_sent in
+      ap (λ (k : InformKnown). k.engine) (known_on next hears)
+      ∙ ap (λ (s : Option SentMessage). engine_after s next what.given.engine (known_of w.number before).engine) sent
+      ∙ ap (λ (e : List ℕ). engine_after w.exchange.request.sent next e (known_of w.number before).engine) (ap (λ (g : Given). g.engine) whats ∙ of)
+      ∙ ap (engine_after w.exchange.request.sent next engine) stands.engine
+      ∙ sym hears.engine_is
+
+  -- the engine is known once another message than the discovery is to be sent
+  located_then : (next : NextStep) → HearsInform w heard holds engine next y → is_end next ≡ false → (m : SentMessage) → y.exchange.request.sent ≡ Some m → m ≢ Discovery → IsSome y.engine
+  located_then (Send n) hears on m is never = elim hears.hears.hears [
+    | inl tells ↦ subst (λ (e : Option (List ℕ)). IsSome e) (sym (hears.engine_is ∙ ap (λ (s : Option SentMessage). engine_after s (Send n) engine w.engine) tells.0.asked)) refl
+    | inr others ↦ elim others [
+      | inl tells ↦ subst (λ (e : Option (List ℕ)). IsSome e) (sym (hears.engine_is ∙ ap (λ (s : Option SentMessage). engine_after s (Send n) engine w.engine) tells.0.asked))
+          (stands.located TimeRequest tells.0.asked (λ e. cc e))
+      | inr window ↦ subst (λ (e : Option (List ℕ)). IsSome e) (sym (hears.engine_is ∙ ap (λ (s : Option SentMessage). engine_after s (Send n) engine w.engine) window.0.asked))
+          (stands.located Request window.0.asked (λ e. cc e))
+    ]
+  ]
+  located_then Wait hears on m is never =
+      let same : y.exchange.request.sent ≡ w.exchange.request.sent = ap (λ (r : DeviceRequest). r.sent) hears.hears.hears.1 in
+      subst (λ (e : Option (List ℕ)). IsSome e) (sym (hears.engine_is ∙ engine_wait w.exchange.request.sent engine w.engine)) (stands.located m (sym same ∙ is) never)
+  located_then Answered hears on m is never = cc on
+  located_then (Refused counter) hears on m is never = cc on
+
+  sent_on : HearsInform w heard holds engine Wait y → y.exchange.request.sent ≡ w.exchange.request.sent
+  sent_on hears = ap (λ (r : DeviceRequest). r.sent) hears.hears.hears.1
+
+  asked_on : HearsInform w heard holds engine Wait y → (known_of y.number (heard_now Wait ∷ before)).asked ≡ (known_of w.number before).asked
+  asked_on hears = ap (λ (k : InformKnown). k.asked) (known_on Wait hears)
+
+  own_on : (r : OutstandingRequest) → HearsInform w heard holds engine Wait y → IsOwn before w r → IsOwn (heard_now Wait ∷ before) y r
+  own_on r hears own = record { message = own.message; is_asked = asked_on hears ∙ own.is_asked; is_sent = sent_on hears ∙ own.is_sent }
+
+  waits_on : (t : ℕ) → HearsInform w heard holds engine Wait y → IsWaitedFor old before w t → IsWaitedFor new (heard_now Wait ∷ before) y t
+  waits_on t hears wait = record {
+    given = omega (arith, wait.given, keeps.later);
+    own = λ r there of. own_on r hears (wait.own r (keeps.same t r wait.given there of) of);
+  }
+
+  waits_then : (next : NextStep) → HearsInform w heard holds engine next y → is_end next ≡ false → (t : ℕ) → y.token ≡ Some t → IsWaitedFor new (heard_now next ∷ before) y t
+  waits_then (Send n) hears on t is = absurd (none_some t (sym hears.token_is ∙ is))
+  waits_then Wait hears on t is = waits_on t hears (stands.waits t (sym hears.token_is ∙ is))
+  waits_then Answered hears on t is = absurd (not_end on)
+  waits_then (Refused counter) hears on t is = absurd (not_end on)
+
+  pub heard_stands : (next : NextStep) → HearsInform w heard holds engine next y → is_end next ≡ false → InformStands limits new (heard_now next ∷ before) y
+  heard_stands next hears on = record {
+    at = stands_as limits (heard_now next ∷ before) w.number y.number w.inform y.inform y.exchange hears.number hears.inform (heard_at next hears on);
+    engine = heard_engine next hears;
+    located = located_then next hears on;
+    waits = waits_then next hears on;
+  }
+
+module _ (old new : Informs) (before : List InformHappening) (place : ℕ) (w y : WaitingInform) (given : Given) (heard : Heard) (holds : Bool) (engine : List ℕ) (next : NextStep) (hears : HearsInform w heard holds engine next y) (of : given.engine ≡ engine)
+    (at : IsAt old place w) (is_answer : IsAnswered before w given heard) (keeps : KeepsRequests old.requests new.requests) (else : IsSameElse old new) (stands : InformsStand before old) where
+  answer_lawful : (what : Accepted) → what.given ≡ given → IsAccepted old.manager.users what → IsAnswer (setting_of old) before w.number what (heard_as heard holds next)
+  answer_lawful what whats accepted = record {
+    inform = w.inform;
+    at = w.exchange;
+    stands = (stands_there old before place w at stands).at;
+    asked = is_answer.asked;
+    is_asked = is_answer.is_asked;
+    is_sent = is_answer.is_sent;
+    accepted = accepted;
+    is_heard = subst (λ (g : Given). IsHeardIn is_answer.asked.pending g heard) (sym whats) is_answer.is_heard;
+    next = y.exchange;
+    goes_on = hears.hears;
+  }
+
+  pub answers_on : {Next : NextStep → Type 0} → Next next → new.list.items ≡ slice_set old.list.items place y → is_end next ≡ false → AnswersGiven old before given w.number Next new
+  answers_on is list on = record {
+    heard = heard_as heard holds next;
+    next = is;
+    happens = λ what whats accepted. record {
+      lawful = answer_lawful what whats accepted;
+      stands = goes_on old new before (answers w.number what (heard_as heard holds next)) place w else at refl keeps stands y hears.number list
+          (heard_stands old.limits old.requests new.requests before w y given heard holds engine what of whats is_answer keeps (stands_there old before place w at stands) next hears on);
+    };
+  }
+
+  pub answers_off : {Next : NextStep → Type 0} → Next next → new.list.items ≡ remove (slice_set old.list.items place y) place → AnswersGiven old before given w.number Next new
+  answers_off is list = record {
+    heard = heard_as heard holds next;
+    next = is;
+    happens = λ what whats accepted. record {
+      lawful = answer_lawful what whats accepted;
+      stands = goes_off old new before (answers w.number what (heard_as heard holds next)) place w else at refl keeps stands (list ∙ remove_set old.list.items place y);
+    };
+  }
+
+module _ (old new : Informs) (before : List InformHappening) (place : ℕ) (i x w y : WaitingInform) (given : Given) (heard : Heard) (holds : Bool) (engine : List ℕ) (turn next : NextStep) (hears : HearsInform x heard holds engine turn y) (is : turn ≡ next)
+    (of : given.engine ≡ engine) (at_i : IsAt old place i) (at_x : IsAt old place x) (at : IsAt old place w) (is_answer : IsAnswered before w given heard) (keeps : KeepsRequests old.requests new.requests) (else : IsSameElse old new)
+    (stands : InformsStand before old) where
+  hears_it : HearsInform w heard holds engine next y
+  hears_it = subst (λ (n : NextStep). HearsInform w heard holds engine n y) is (subst (λ (z : WaitingInform). HearsInform z heard holds engine turn y) (same_Some x w (sym at_x ∙ at)) hears)
+
+  number_is : w.number ≡ i.number
+  number_is = ap (λ (z : WaitingInform). z.number) (same_Some w i (sym at ∙ at_i))
+
+  pub hears_on : (Next : NextStep → Type 0) → Next next → new.list.items ≡ slice_set old.list.items place y → is_end next ≡ false → AnswersGiven old before given i.number Next new
+  hears_on Next has list on = subst (λ (n : ℕ). AnswersGiven old before given n Next new) number_is
+      (answers_on old new before place w y given heard holds engine next hears_it of at is_answer keeps else stands has list on)
+
+  pub hears_off : (Next : NextStep → Type 0) → Next next → new.list.items ≡ remove (slice_set old.list.items place y) place → AnswersGiven old before given i.number Next new
+  hears_off Next has list = subst (λ (n : ℕ). AnswersGiven old before given n Next new) number_is
+      (answers_off old new before place w y given heard holds engine next hears_it of at is_answer keeps else stands has list)

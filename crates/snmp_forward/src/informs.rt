@@ -106,6 +106,15 @@ fn forget(requests: &mut OutstandingRequests, token: Option<u64>)
     }
 }
 
+/// The message with this token isn't waited for any more, unless another answer to it may come.
+fn settle(requests: &mut OutstandingRequests, step: NextStep, token: u64)
+    ensures { KeepsRequests requests.old requests.new }
+{
+    if step != NextStep::Wait {
+        requests.give_up(token);
+    }
+}
+
 impl Informs {
     /// Returns that no Inform waits. At most `most` wait at once. They are sent from this engine, with the users and
     /// the clocks of this manager. It takes no memory.
@@ -222,11 +231,10 @@ impl Informs {
     {
         let number = self.list[place].number;
         let step = self.list[place].hear(answered.heard, holds_clock, engine);
-        if step != NextStep::Wait {
-            self.requests.give_up(answered.token);
-        }
+        settle(&mut self.requests, step, answered.token);
         match step {
-            NextStep::Wait | NextStep::Send(_) => ReceiverTaken::Heard(number),
+            NextStep::Wait => ReceiverTaken::Heard(number),
+            NextStep::Send(_) => ReceiverTaken::Heard(number),
             NextStep::Answered => {
                 self.list.remove(place);
                 ReceiverTaken::Acknowledged(number)
