@@ -10,3 +10,4 @@ pub mod Dues
 pub mod Tokens
 pub mod InformKeeping
 pub mod InformSteps
+pub mod InformAnswers

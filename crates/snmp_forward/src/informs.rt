@@ -191,8 +191,12 @@ impl Informs {
     {
         match self.manager.take(now / 1000, datagram) {
             Ok(taken) => Ok(self.accept(&taken)),
-            Err(refused) if refused.is_memory() => Err(AllocError),
-            Err(refused) => Ok(ReceiverTaken::Refused(refused.refusal)),
+            Err(refused) => {
+                if refused.is_memory() {
+                    return Err(AllocError);
+                }
+                Ok(ReceiverTaken::Refused(refused.refusal))
+            }
         }
     }
 
