@@ -11,3 +11,4 @@ pub mod Tokens
 pub mod InformKeeping
 pub mod InformSteps
 pub mod InformAnswers
+pub mod InformRunning

@@ -13,3 +13,4 @@ pub mod Informs
 pub mod WaitingInforms
 pub mod InformHistory
 pub mod InformStanding
+pub mod InformRuns

@@ -113,6 +113,7 @@ mod exchange;
 mod exchange_laws;
 mod forwarder;
 mod inform;
+mod inform_laws;
 mod informs;
 mod laws;
 mod notification;
@@ -127,6 +128,9 @@ pub use exchange::{InformExchange, InformLimits, InformTurn};
 pub use exchange_laws::{an_inform_is_asked_as_a_request, an_inform_is_sent_within_its_tries};
 pub use forwarder::{Forwarded, Forwarder, TrapTaken};
 pub use inform::Inform;
+pub use inform_laws::{
+    an_inform_is_acknowledged_by_its_own_response, informs_are_sent_to_their_receivers,
+};
 pub use informs::{InformSent, Informs, ReceiverTaken};
 pub use laws::{each_receiver_has_its_turn, notifications_are_mediated, one_notification};
 pub use notification::{DeviceNotification, NotNotification, read_device_notification};
