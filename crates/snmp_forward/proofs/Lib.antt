@@ -12,3 +12,4 @@ pub mod InformKeeping
 pub mod InformSteps
 pub mod InformAnswers
 pub mod InformRunning
+pub mod Mediating

@@ -1,11 +1,12 @@
 -- What is sent as an Inform, and what its receiver is sent for it (RFC 3413, section 3.3; RFC 3414, section 4; RFC
 -- 3416, section 4.2.7).
 --
--- `IsInformOf`: the Inform by which a receiver is told what a device sent. `inform_to`: as what it goes out.
+-- `IsInformOf`: the Inform by which a receiver is told what a device sent. `IsInformFor`: the same, if it may be
+-- notified. `IsMediated`: an Inform is one of these. `inform_to`: as what it goes out.
 -- `time_request_to`: as what the receiver's engine is asked for its boots and time. `SealsInform`: what comes of
 -- sealing an Inform. `SendsDiscovery`, `SendsTimeRequest`, `SendsInform`: the message that goes out, and what is
 -- remembered of it.
-use Rattle.std.specs.Prelude.{◌≡◌, ◌≢◌, ◌⊎◌, ℕ, ℤ, pos, true, List, [], None, Option, Result, Err, Ok}
+use Rattle.std.specs.Prelude.{◌≡◌, ◌≢◌, ◌⊎◌, ℕ, ℤ, pos, true, List, [], None, Some, Option, Result, Err, Ok}
 use Rattle.std.specs.Global.{Vec}
 use Rattle.engine_clock.specs.Marks.{SeenPair, mark_at}
 use Rattle.snmp_ber.specs.declared.level.Level.{Level}
@@ -19,12 +20,15 @@ use Rattle.snmp_msg.specs.PduTypes.{pdu_tag}
 use Rattle.snmp_msg.specs.Variables.{variables_of}
 use Rattle.snmp_msg.specs.declared.pdu_type.PduType.TheVariants.{GetRequest, InformRequest}
 use Rattle.usm_core.specs.Sealed.{Seals}
+use Rattle.vacm_core.specs.Tables.{Tables}
+use Rattle.snmp_gate.specs.declared.devices.Device.{Device}
 use Rattle.snmp_outgoing.specs.Requests.{discovering, written_pair}
 use Rattle.snmp_outgoing.specs.Speaks.{Speech, spoken}
 use Rattle.snmp_manager.specs.Pendings.{Remembers}
 use Rattle.snmp_manager.specs.Views.{Held}
 use Rattle.snmp_manager.specs.declared.pending.Pending.{Pending}
 use Rattle.snmp_forward.specs.Notifications.{IsNoNotification, IsNotification}
+use Rattle.snmp_forward.specs.Sending.{MayBeSent}
 use Rattle.snmp_forward.specs.declared.asking.AskedWith.{AskedWith}
 use Rattle.snmp_forward.specs.declared.asking.AskedWith.TheVariants.{Sends, Refused}
 use Rattle.snmp_forward.specs.declared.inform.Inform.{Inform}
@@ -39,6 +43,23 @@ pub record IsInformOf (number : ℕ) (to : Receiver) (context datagram : List �
   pub level : i.level ≡ to.level
   pub context_is : i.context.items ≡ context
   pub datagram_is : i.datagram.items ≡ datagram
+
+-- the Inform for the receiver with this number, if it may be sent the notification of the device with that number
+abbrev pub IsInformFor : Tables → List Device → List Receiver → ℕ → List ℕ → ℕ → Option Inform → Type 0
+IsInformFor tables devices receivers device datagram n None =
+    ¬ MayBeSent tables devices receivers device datagram n
+IsInformFor tables devices receivers device datagram n (Some inform) =
+    (may : MayBeSent tables devices receivers device datagram n)
+    × IsInformOf n may.to may.from.context.items datagram inform
+
+-- it is the Inform of a notification that a device sent, for a receiver that may be sent it
+pub record IsMediated (tables : Tables) (devices : List Device) (receivers : List Receiver) (inform : Inform)
+    : Type 0 where
+  pub device : ℕ
+  pub datagram : List ℕ
+  pub receiver : ℕ
+  pub may : MayBeSent tables devices receivers device datagram receiver
+  pub is_of : IsInformOf receiver may.to may.from.context.items datagram inform
 
 -- ---- as what messages go out
 

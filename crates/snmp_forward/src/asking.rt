@@ -2,26 +2,29 @@
 
 ghost use Rattle.std.specs.Prelude.{◌≡◌, ◌≤◌, IfOk, length};
 ghost use Rattle.snmp_ber.specs.declared.number.TheConstants.{MAX_INTEGER32};
-ghost use Rattle.snmp_forward.specs.Informs.{IsAskedOf, IsDiscoveryWritten, IsInformOf, IsInformWritten};
-ghost use Rattle.snmp_forward.specs.Informs.{IsTimeRequestWritten};
+ghost use Rattle.snmp_forward.specs.Informs.{IsAskedOf, IsDiscoveryWritten, IsInformFor, IsInformOf};
+ghost use Rattle.snmp_forward.specs.Informs.{IsInformWritten, IsTimeRequestWritten};
 
+use crate::forwarder::has_community;
 use crate::inform::Inform;
+use crate::laws::one_notification;
 use crate::notification::read_device_notification;
-use crate::receivers::{Receiver, USER_NAME_LIMIT};
+use crate::receivers::{Receiver, Receivers, USER_NAME_LIMIT};
 use crate::sealing::Sealing;
 use crate::trap::front_of;
 use engine_clock::EngineId;
 use snmp_ber::Level;
-use snmp_gate::bindings_of;
+use snmp_gate::{Devices, bindings_of};
 use snmp_manager::{Manager, Pending, Target};
 use snmp_msg::{PduType, Refusal, RefusedAt, one_pdu};
 use snmp_outgoing::Body;
 use std::alloc::{AllocError, Global};
+use vacm_core::Vacm;
 
 impl Inform {
     /// Returns the Inform by which the receiver with this number is told what a device sent, in the device's context.
     /// The error is out of memory.
-    pub fn new(
+    pub(crate) fn new(
         alloc: Global,
         receiver: usize,
         to: &Receiver,
@@ -38,6 +41,44 @@ impl Inform {
             context: Vec::from_slice(alloc, context)?,
             datagram: Vec::from_slice(alloc, datagram)?,
         })
+    }
+}
+
+impl Receivers {
+    /// Returns the Inform by which the receiver with this number is told of a datagram that came from the device with
+    /// that number, each counted from 0. None: it isn't a notification with the device's community, or the receiver
+    /// may not be notified of all of it in the device's context (RFC 3413, section 3.3, steps 3 and 4). The error is
+    /// out of memory.
+    pub fn inform(
+        &self,
+        alloc: Global,
+        tables: &Vacm,
+        devices: &Devices,
+        device: usize,
+        receiver: usize,
+        datagram: &[u8],
+    ) -> Result<Option<Inform>, AllocError>
+        ensures { IfOk result (IsInformFor tables.now devices.now.list.items self.now.list.items device datagram.now
+            receiver) }
+    {
+        one_notification();
+        let Ok(notification) = read_device_notification(datagram) else {
+            return Ok(None);
+        };
+        let Some(from) = devices.list().get(device) else {
+            return Ok(None);
+        };
+        let Some(to) = self.list().get(receiver) else {
+            return Ok(None);
+        };
+        if !has_community(from, notification.community) {
+            return Ok(None);
+        }
+        if !to.may_be_notified(tables, &from.context, &notification) {
+            return Ok(None);
+        }
+        let inform = Inform::new(alloc, receiver, to, &from.context, datagram)?;
+        Ok(Some(inform))
     }
 }
 
