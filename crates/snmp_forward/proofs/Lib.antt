@@ -13,3 +13,4 @@ pub mod InformSteps
 pub mod InformAnswers
 pub mod InformRunning
 pub mod Mediating
+pub mod Mediation

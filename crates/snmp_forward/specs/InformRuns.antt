@@ -2,22 +2,28 @@
 --
 -- `InformEvent`: a call and its answer. `IsInformRun`: the events of Informs, the latest first. `IsInformHistoryOf`: a
 -- history of these events that is lawful. `times_ended`: how often an Inform ended. `IsOwnResponse`: an accepted message
--- is the Response to the very Inform.
+-- is the Response to the very Inform. `IsMediatedAsk`: the receiver of an Inform may be notified of all of it.
 use Rattle.std.specs.Prelude.{◌≡◌, ◌+◌, ℕ, Bool, true, false, cond, nat_eq, List, [], ◌∷◌, ◌++◌, Some}
 use Rattle.snmp_incoming.specs.Outcome.{Given}
+use Rattle.snmp_gate.specs.declared.devices.Device.{Device}
+use Rattle.snmp_manager.specs.Views.{Held}
 use Rattle.snmp_manager.specs.declared.pending.Pending.{Pending}
+use Rattle.vacm_core.specs.Tables.{Tables}
 use Rattle.snmp_requests.specs.declared.device_request.Heard.TheVariants.{Response}
 use Rattle.snmp_requests.specs.declared.device_request.NextStep.{NextStep}
 use Rattle.snmp_requests.specs.declared.device_request.NextStep.TheVariants as step
 use Rattle.snmp_requests.specs.declared.device_request.SentMessage.TheVariants.{Request}
-use Rattle.snmp_forward.specs.InformHistory.{AreInformsLawful, InformHappening, IsHeardIn, answers, asked_with, asks, begins, ends, is_end, known_of}
+use Rattle.snmp_forward.specs.InformHistory.{AreInformsLawful, InformHappening, InformSetting, IsHeardIn, answers, asked_with, asks, begins, ends, is_end, known_of}
 use Rattle.snmp_forward.specs.InformStanding.{AreAsBefore, InformHappens, InformSendHappens, InformsStand, InformsStay, ReceiverHappens, setting_of}
+use Rattle.snmp_forward.specs.Informs.{IsMediated, SendsInform}
 use Rattle.snmp_forward.specs.declared.inform.Inform.{Inform}
 use Rattle.snmp_forward.specs.declared.informs.InformSent.{InformSent}
 use Rattle.snmp_forward.specs.declared.informs.InformSent.TheVariants.{ToReceiver}
 use Rattle.snmp_forward.specs.declared.informs.Informs.{Informs}
 use Rattle.snmp_forward.specs.declared.informs.ReceiverTaken.{ReceiverTaken}
 use Rattle.snmp_forward.specs.declared.informs.ReceiverTaken.TheVariants.{Acknowledged}
+use Rattle.snmp_forward.specs.declared.receivers.Receiver.{Receiver}
+use Rattle.snmp_forward.specs.declared.sealing.Sealing.{Sealing}
 
 -- moments are milliseconds
 pub data InformEvent : Type 0 where
@@ -141,3 +147,15 @@ pub record IsOwnResponse (before : List InformHappening) (number : ℕ) (given :
   pub pending : Pending
   pub is_asked : (known_of number before).asked ≡ Some (asked_with Request pending)
   pub is_response : IsHeardIn pending given Response
+
+-- the Inform that goes to the receiver with this number tells what a device sent, and the receiver may be notified of
+-- all of it in the device's context; it is for the receiver's engine, and sealed for its user at its level
+pub record IsMediatedAsk (tables : Tables) (devices : List Device) (receivers : List Receiver) (s : InformSetting)
+    (before : List InformHappening) (number receiver : ℕ) (held : Held) (by : Sealing) (pending : Pending)
+    (datagram : List ℕ) : Type 0 where
+  pub inform : Inform
+  pub mediated : IsMediated tables devices receivers inform
+  pub to : mediated.receiver ≡ receiver
+  pub engine : List ℕ
+  pub engine_is : (known_of number before).engine ≡ Some engine
+  pub goes : SendsInform held s.own engine inform by pending datagram

@@ -1,16 +1,24 @@
 //! Laws of Informs, over any run of calls. Each function does nothing: its contract is the law.
 
-ghost use Rattle.std.specs.Prelude.{◌≡◌, ◌≤◌, ℕ, List, [], length};
+ghost use Rattle.std.specs.Prelude.{◌≡◌, ◌≤◌, ℕ, All, List, [], length};
+ghost use Rattle.snmp_gate.specs.declared.devices.Device.{Device};
+ghost use Rattle.snmp_manager.specs.Views.{Held};
+ghost use Rattle.snmp_manager.specs.declared.pending.Pending.{Pending};
 ghost use Rattle.snmp_requests.specs.DeviceRequestRuns.{HearStep};
 ghost use Rattle.snmp_requests.specs.declared.device_request.NextStep.TheVariants.{Answered};
 ghost use Rattle.snmp_requests.specs.declared.device_request.SentMessage.{SentMessage};
+ghost use Rattle.snmp_requests.specs.declared.device_request.SentMessage.TheVariants.{Request};
+ghost use Rattle.vacm_core.specs.Tables.{Tables};
 ghost use Rattle.snmp_forward.specs.ExchangeRuns.{times_tried};
 ghost use Rattle.snmp_forward.specs.InformHistory.{Accepted, AreInformsLawful, InformHappening, InformSetting};
-ghost use Rattle.snmp_forward.specs.InformHistory.{IsAnswer, known_of};
+ghost use Rattle.snmp_forward.specs.InformHistory.{IsAnswer, IsAsk, known_of};
 ghost use Rattle.snmp_forward.specs.InformRuns.{InformEvent, IsInformHistoryOf, IsInformRun, IsOwnResponse};
-ghost use Rattle.snmp_forward.specs.InformRuns.{times_ended};
+ghost use Rattle.snmp_forward.specs.InformRuns.{IsMediatedAsk, begun_in, times_ended};
 ghost use Rattle.snmp_forward.specs.InformStanding.{InformsStand};
+ghost use Rattle.snmp_forward.specs.Informs.{IsMediated};
 ghost use Rattle.snmp_forward.specs.declared.informs.Informs.{Informs};
+ghost use Rattle.snmp_forward.specs.declared.receivers.Receiver.{Receiver};
+ghost use Rattle.snmp_forward.specs.declared.sealing.Sealing.{Sealing};
 
 /// Whatever receivers send, and whatever is done for Informs: what goes out of them and is acknowledged has a history
 /// that is lawful (`history`). So a receiver is sent an Inform as what it is, sealed for its user at its level, and for
@@ -24,6 +32,17 @@ pub fn informs_are_sent_to_their_receivers()
         → IsInformRun first events last → (history : List InformHappening) × IsInformHistoryOf first events history }
     ensures few { (first last : Informs) (events : List InformEvent) → InformsStand [] first
         → IsInformRun first events last → length last.list.items ≤ first.most }
+{}
+
+/// In a history of Informs each of which was made by `Receivers::inform`, an Inform goes to a receiver only if a device
+/// sent what it says, with its own community, and each of its variables is one of which the receiver may be notified in
+/// that device's context. It has these very variables, and is sealed for the receiver's user at its level.
+pub fn informs_are_mediated()
+    ensures { (tables : Tables) (devices : List Device) (receivers : List Receiver) (s : InformSetting)
+        (before : List InformHappening) (number receiver now : ℕ) (held : Held) (by : Sealing) (pending : Pending)
+        (datagram : List ℕ) → All (IsMediated tables devices receivers) (begun_in before)
+        → IsAsk s before number receiver now Request held by pending datagram
+        → IsMediatedAsk tables devices receivers s before number receiver held by pending datagram }
 {}
 
 /// In a lawful history an Inform is acknowledged by its own Response alone (`response`): the Inform itself was sent

@@ -129,7 +129,8 @@ pub use exchange_laws::{an_inform_is_asked_as_a_request, an_inform_is_sent_withi
 pub use forwarder::{Forwarded, Forwarder, TrapTaken};
 pub use inform::Inform;
 pub use inform_laws::{
-    an_inform_is_acknowledged_by_its_own_response, informs_are_sent_to_their_receivers,
+    an_inform_is_acknowledged_by_its_own_response, informs_are_mediated,
+    informs_are_sent_to_their_receivers,
 };
 pub use informs::{InformSent, Informs, ReceiverTaken};
 pub use laws::{each_receiver_has_its_turn, notifications_are_mediated, one_notification};
