@@ -72,7 +72,7 @@ given_as old new q before g n Next a = record {
 
 pub answer_as : (old new : Informs) (q : Outstanding) (before : List InformHappening) (g : Given) (r : ReceiverTaken) → AnswerHappens (with_requests old q) before g r new → AnswerHappens old before g r new
 answer_as old new q before g (taken.Refused why) h = h
-answer_as old new q before g taken.NoAnswer h = h
+answer_as old new q before g taken.NoAnswer h = record { list = h.list; stands = h.stands }
 answer_as old new q before g (taken.Heard n) h = given_as old new q before g n _ h
 answer_as old new q before g (taken.Acknowledged n) h = given_as old new q before g n _ h
 answer_as old new q before g (taken.Denied n counter) h = given_as old new q before g n _ h
@@ -107,7 +107,7 @@ module _ (old new : Informs) (held : Held) (before : List InformHappening) (now 
 
   pub receives : (r : ReceiverTaken) → AnswerHappens (with_manager old held) before g r new → ReceiverHappens old before now datagram r new
   receives (taken.Refused why) h = absurd h
-  receives taken.NoAnswer h = ((g, takes_on), h)
+  receives taken.NoAnswer h = ((g, takes_on), record { list = h.list; stands = h.stands })
   receives (taken.Heard n) h = hears_of n _ h
   receives (taken.Acknowledged n) h = hears_of n _ h
   receives (taken.Denied n counter) h = hears_of n _ h

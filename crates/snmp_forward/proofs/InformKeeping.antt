@@ -1,12 +1,12 @@
 -- What is known of the Informs that wait, as more happens.
-use Rattle.std.specs.Prelude.{◌≡◌, ◌≢◌, ◌<◌, ◌≤◌, ◌+◌, ℕ, zero, suc, Bool, List, [], ◌∷◌, ◌++◌, All, AllPairs, Contains, MatchBool, None, Some, true, false, length, remove, slice_get, slice_index_or, slice_set}
+use Rattle.std.specs.Prelude.{◌≡◌, ◌≢◌, ◌<◌, ◌≤◌, ◌+◌, ◌-◌, ℕ, zero, suc, Bool, List, [], ◌∷◌, ◌++◌, All, AllPairs, Contains, MatchBool, None, Some, true, false, length, remove, slice_get, slice_index_or, slice_set}
 use Rattle.std.specs.FinMap as map
 use Rattle.std.proofs.Common.{refl, sym, ap, subst, ◌∙◌, inl, inr, arith, length-append}
 use Rattle.std.proofs.lemmas.Bool.{cases_lt}
 use Rattle.std.proofs.lemmas.Bool.Decides.{eqb_tells}
 use Rattle.std.proofs.lemmas.List.{get_or-set_other, get_or-set_same, length-set}
 use Rattle.std.proofs.lemmas.List.Edits.{get_or-remove_above, get_or-remove_below, length-remove}
-use Rattle.std.proofs.lemmas.List.Elements.{All-cons, All-contains, All-push, All-weaker, Contains-append_right}
+use Rattle.std.proofs.lemmas.List.Elements.{All-cons, All-contains, All-push, All-weaker, Contains-append_cases, Contains-append_left, Contains-append_right, Contains-push, Contains-push_cases}
 use Rattle.std.proofs.lemmas.List.Quantifiers.{all_pairs_push, all_pairs_remove}
 use Rattle.std.proofs.lemmas.Option.{same_Some, slice_get_within}
 use Rattle.snmp_gate.proofs.Pairs.{pairs_set}
@@ -16,7 +16,7 @@ use Rattle.snmp_requests.proofs.Maps.{at_insert, at_remove, insert_here}
 use Rattle.snmp_manager.specs.declared.pending.Pending.{Pending}
 use Rattle.snmp_forward.specs.ExchangeRuns.{ExchangeStep, IsExchangeRun}
 use Rattle.snmp_forward.specs.InformHistory.{InformHappening, InformKnown, StandsAt, begins, inform_of, known_after, known_of, nothing_known}
-use Rattle.snmp_forward.specs.InformStanding.{InformStands, InformsStand, IsAt, IsSameElse, IsWaitedFor, KeepsRequests}
+use Rattle.snmp_forward.specs.InformStanding.{InformStands, InformsStand, IsAt, IsKept, IsSameElse, IsStill, IsWaitedFor, KeepsRequests}
 use Rattle.snmp_forward.specs.WaitingInforms.{IsNewInform}
 use Rattle.snmp_requests.specs.DeviceRequests.{Begins}
 use Rattle.snmp_requests.specs.declared.device_request.SentMessage.{SentMessage}
@@ -102,6 +102,45 @@ remove_set [] place y = refl
 remove_set (x ∷ xs) zero y = refl
 remove_set (x ∷ xs) (suc place) y = ap (λ (zs : List _). x ∷ zs) (remove_set xs place y)
 
+-- ---- those that are kept
+
+pub not_kept_twice : true ≡ false → ⊥
+not_kept_twice e = cc e
+
+module _ (xs : List WaitingInform) (place : ℕ) (w : WaitingInform) (at : slice_get xs place ≡ Some w) (n : ℕ) (differs : n ≢ w.number) where
+  -- another one is at another place
+  other_place : (x : WaitingInform) (k : ℕ) → slice_index_or xs k x ≡ x → x.number ≡ n → k ≢ place
+  other_place x k is number same =
+      let here : x ≡ w = sym is ∙ ap (λ (i : ℕ). slice_index_or xs i x) same ∙ read_at xs place w x at in
+      differs (sym number ∙ ap (λ (z : WaitingInform). z.number) here)
+
+  kept_set : (y : WaitingInform) → IsKept xs n → IsKept (slice_set xs place y) n
+  kept_set y (x, (k, short, is), number) = (x, (k, omega (arith, short, length-set xs place y), get_or-set_other xs place k y x (other_place x k is number) ∙ is), number)
+
+  kept_gone : place < length xs → IsKept xs n → IsKept (remove xs place) n
+  kept_gone within (x, (k, short, is), number) =
+      let long = length-remove xs place within in
+      let off = other_place x k is number in
+      elim (cases_lt k place) [
+        | inl less ↦ (x, (k, omega (arith, less, within, long), get_or-remove_below xs place x k less within ∙ is), number)
+        | inr least ↦
+            let more : (k - 1) + 1 ≡ k = omega (arith, least, off) in
+            (x, (k - 1, omega (arith, short, long, least, off), get_or-remove_above xs place x (k - 1) (omega (arith, least, off)) within ∙ ap (λ (i : ℕ). slice_index_or xs i x) more ∙ is), number)
+      ]
+
+kept_more : (xs : List WaitingInform) (w : WaitingInform) (n : ℕ) → IsKept xs n → IsKept (xs ++ w ∷ []) n
+kept_more xs w n (x, there, number) = (x, Contains-append_left xs (w ∷ []) x there, number)
+
+-- what happened was the latest, or before
+earlier : (e x : InformHappening) (before : List InformHappening) → (e ≡ x → ⊥) → Contains (e ∷ before) x → Contains before x
+earlier e x before never there = elim (Contains-append_cases (e ∷ []) before x there) [
+  | inl now ↦ elim (Contains-push_cases [] e x now) [
+    | inl none ↦ absurd (omega (arith, none.1))
+    | inr is ↦ absurd (never is)
+  ]
+  | inr then ↦ then
+]
+
 -- ---- what is known of an Inform
 
 pub later : {A : Type 0} (x y : A) (xs : List A) → Contains xs x → Contains (y ∷ xs) x
@@ -159,10 +198,15 @@ pub still : (old new : Informs) (before : List InformHappening) → new.limits �
 still old new before limits most next list keeps stands =
     let all = All-weaker (InformStands old.limits old.requests before) (InformStands old.limits new.requests before) (λ w is. stands_still old.limits before old.requests new.requests w keeps is) old.list.items stands.all in record {
       all = subst (λ (l : InformLimits). All (InformStands l new.requests before) new.list.items) (sym limits) (subst (All (InformStands old.limits new.requests before)) (sym list) all);
+      kept = λ n i there over. subst (λ (ws : List WaitingInform). IsKept ws n) (sym list) (stands.kept n i there over);
       rise = subst (AllPairs (λ (a b : WaitingInform). a.number < b.number)) (sym list) stands.rise;
       past = subst (λ (n : ℕ). All (λ (e : InformHappening). inform_of e < n) before) (sym next) stands.past;
       few = subst (λ (ws : List WaitingInform). length ws ≤ new.most) (sym list) (subst (λ (n : ℕ). length old.list.items ≤ n) (sym most) stands.few);
     }
+
+pub nothing_happens : (old new : Informs) (before : List InformHappening) → new.limits ≡ old.limits → new.most ≡ old.most → new.next ≡ old.next → new.list.items ≡ old.list.items → KeepsRequests old.requests new.requests
+    → InformsStand before old → IsStill old before new
+nothing_happens old new before limits most next list keeps stands = record { list = list; stands = still old new before limits most next list keeps stands }
 
 -- the number of each that waits is less than that of the next one, since it has begun
 number_known : (limits : InformLimits) (before : List InformHappening) (next n : ℕ) (i : Inform) (x : InformExchange) → All (λ (e : InformHappening). inform_of e < next) before → StandsAt limits before n i x → n < next
@@ -195,22 +239,37 @@ module _ (old new : Informs) (before : List InformHappening) (e : InformHappenin
       let less = number_known old.limits before old.next w.number w.inform w.exchange stands.past it_stands.at in
       subst (λ (n : ℕ). All (λ (x : InformHappening). inform_of x < n) (e ∷ before)) (sym is_same.next) (All-cons (λ (x : InformHappening). inform_of x < old.next) e before (omega (arith, less, of)) stands.past)
 
+  -- another one was kept before
+  kept_before : (n : ℕ) (i : Inform) → n ≢ w.number → Contains (e ∷ before) (begins n i) → (known_of n (e ∷ before)).over ≡ false → IsKept old.list.items n
+  kept_before n i differs there over =
+      let never : n ≢ inform_of e = λ is. differs (is ∙ of) in
+      let then = earlier e (begins n i) before (λ is. never (sym (ap inform_of is))) there in
+      stands.kept n i then (sym (ap (λ (k : InformKnown). k.over) (known_other n e before never)) ∙ over)
+
   -- the Inform is another one now
   pub goes_on : (y : WaitingInform) → y.number ≡ w.number → new.list.items ≡ slice_set old.list.items place y → InformStands old.limits new.requests (e ∷ before) y → InformsStand (e ∷ before) new
   goes_on y number list is =
       let there : w ≡ slice_index_or old.list.items place w = sym (read_at old.list.items place w w at) in record {
         all = subst (All (InformStands new.limits new.requests (e ∷ before))) (sym list) (all_set (InformStands new.limits new.requests (e ∷ before)) old.list.items place y within others_stand
             (subst (λ (l : InformLimits). InformStands l new.requests (e ∷ before) y) (sym is_same.limits) is));
+        kept = λ n i known over. subst (λ (ws : List WaitingInform). IsKept ws n) (sym list) (elim (eqb_tells n w.number) [
+          | inl (test, one) ↦ (y, (place, omega (arith, within, length-set old.list.items place y), get_or-set_same old.list.items place y y within), number ∙ sym one)
+          | inr (test, differs) ↦ kept_set old.list.items place w at n differs y (kept_before n i differs known over)
+        ]);
         rise = subst (AllPairs (λ (a b : WaitingInform). a.number < b.number)) (sym list)
             (pairs_set (λ (a b : WaitingInform). a.number < b.number) old.list.items place w y within there (λ x less. omega (arith, less, number)) (λ x less. omega (arith, less, number)) stands.rise);
         past = past_on;
         few = let long = length-set old.list.items place y in omega (arith, stands.few, long, is_same.most, ap length list);
       }
 
-  -- the Inform is gone
-  pub goes_off : new.list.items ≡ remove old.list.items place → InformsStand (e ∷ before) new
-  goes_off list = record {
+  -- the Inform is gone, which has ended
+  pub goes_off : new.list.items ≡ remove old.list.items place → (known_of w.number (e ∷ before)).over ≡ true → InformsStand (e ∷ before) new
+  goes_off list ended = record {
     all = subst (All (InformStands new.limits new.requests (e ∷ before))) (sym list) (all_gone (InformStands new.limits new.requests (e ∷ before)) old.list.items place within others_stand);
+    kept = λ n i known over. subst (λ (ws : List WaitingInform). IsKept ws n) (sym list) (elim (eqb_tells n w.number) [
+      | inl (test, one) ↦ absurd (not_kept_twice (sym ended ∙ ap (λ (m : ℕ). (known_of m (e ∷ before)).over) (sym one) ∙ over))
+      | inr (test, differs) ↦ kept_gone old.list.items place w at n differs within (kept_before n i differs known over)
+    ]);
     rise = subst (AllPairs (λ (a b : WaitingInform). a.number < b.number)) (sym list) (all_pairs_remove (λ (a b : WaitingInform). a.number < b.number) old.list.items place within stands.rise);
     past = past_on;
     few = let long = length-remove old.list.items place within in omega (arith, stands.few, long, is_same.most, ap length list);
@@ -228,6 +287,12 @@ comes old new before i w limits most requests next number list room is stands =
       all = subst (λ (l : InformLimits). All (InformStands l new.requests (e ∷ before)) new.list.items) (sym limits)
           (subst (λ (r : Outstanding). All (InformStands old.limits r (e ∷ before)) new.list.items) (sym requests)
           (subst (All (InformStands old.limits old.requests (e ∷ before))) (sym list) (All-push (InformStands old.limits old.requests (e ∷ before)) old.list.items w on is)));
+      kept = λ n j there over. subst (λ (ws : List WaitingInform). IsKept ws n) (sym list) (elim (eqb_tells n old.next) [
+        | inl (test, one) ↦ (w, Contains-push old.list.items w, number ∙ sym one)
+        | inr (test, differs) ↦
+            let then = earlier e (begins n j) before (λ is. differs (sym (ap inform_of is))) there in
+            kept_more old.list.items w n (stands.kept n j then (sym (ap (λ (k : InformKnown). k.over) (known_other n e before differs)) ∙ over))
+      ]);
       rise = subst (AllPairs (λ (a b : WaitingInform). a.number < b.number)) (sym list)
           (all_pairs_push (λ (a b : WaitingInform). a.number < b.number) old.list.items w stands.rise (λ k d short. let less = known k d short in omega (arith, less, number)));
       past = subst (λ (n : ℕ). All (λ (x : InformHappening). inform_of x < n) (e ∷ before)) (sym next)

@@ -216,13 +216,13 @@ received : (first middle last : Informs) (now : ℕ) (datagram : List ℕ) (r : 
 received first middle last now datagram (taken.Refused why) events known stays happens = record {
   history = known.history;
   is = unchanged first known.history events (receives now datagram (taken.Refused why)) known.is refl refl refl;
-  stands = happens.1;
+  stands = happens.1.stands;
   stays = stays_on first middle last known.stays stays;
 }
 received first middle last now datagram taken.NoAnswer events known stays happens = record {
   history = known.history;
   is = unchanged first known.history events (receives now datagram taken.NoAnswer) known.is refl refl refl;
-  stands = happens.1;
+  stands = happens.1.stands;
   stays = stays_on first middle last known.stays stays;
 }
 received first middle last now datagram (taken.Heard n) events known stays happens =
@@ -276,7 +276,7 @@ sent_out first middle last now salt id (out.GivenUp n r hint) events known stays
 sent_out first middle last now salt id out.Nothing events known stays happens = record {
   history = known.history;
   is = unchanged first known.history events (goes_out now salt id out.Nothing) known.is refl refl refl;
-  stands = happens;
+  stands = happens.stands;
   stays = stays_on first middle last known.stays stays;
 }
 

@@ -52,7 +52,8 @@ ends_one old new before place now w why gone due reason stands =
         due = due;
         reason = subst (λ (engine : Option (List ℕ)). IsReason (setting_of old) engine w.inform w.exchange why) (sym it.engine) reason;
       };
-      stands = goes_off old new before (ends w.number w.inform.receiver now why) place w gone.same gone.at refl gone.requests stands gone.list;
+      stands = goes_off old new before (ends w.number w.inform.receiver now why) place w gone.same gone.at refl gone.requests stands gone.list
+          (ap (λ (k : InformKnown). k.over) (known_same w.number (ends w.number w.inform.receiver now why) before refl));
     }
 
 pub gives_up_one : (old new : Informs) (before : List InformHappening) (place now first_id : ℕ) (x w : WaitingInform) (why : InformEnd) → IsRemoved old place x new → IsAt old place w → w.exchange.due ≤ now → IsGivenUp old.requests first_id why
@@ -312,13 +313,14 @@ module _ (old new : Informs) (before : List InformHappening) (place : ℕ) (w y 
     };
   }
 
-  pub answers_off : {Next : NextStep → Type 0} → Next next → new.list.items ≡ remove (slice_set old.list.items place y) place → AnswersGiven old before given w.number Next new
-  answers_off is list = record {
+  pub answers_off : {Next : NextStep → Type 0} → Next next → new.list.items ≡ remove (slice_set old.list.items place y) place → is_end next ≡ true → AnswersGiven old before given w.number Next new
+  answers_off is list ended = record {
     heard = heard_as heard holds next;
     next = is;
     happens = λ what whats accepted. record {
       lawful = answer_lawful what whats accepted;
-      stands = goes_off old new before (answers w.number what (heard_as heard holds next)) place w else at refl keeps stands (list ∙ remove_set old.list.items place y);
+      stands = goes_off old new before (answers w.number what (heard_as heard holds next)) place w else at refl keeps stands (list ∙ remove_set old.list.items place y)
+          (ap (λ (k : InformKnown). k.over) (known_same w.number (answers w.number what (heard_as heard holds next)) before refl) ∙ ended);
     };
   }
 
@@ -335,6 +337,6 @@ module _ (old new : Informs) (before : List InformHappening) (place : ℕ) (i x 
   hears_on Next has list on = subst (λ (n : ℕ). AnswersGiven old before given n Next new) number_is
       (answers_on old new before place w y given heard holds engine next hears_it of at is_answer keeps else stands has list on)
 
-  pub hears_off : (Next : NextStep → Type 0) → Next next → new.list.items ≡ remove (slice_set old.list.items place y) place → AnswersGiven old before given i.number Next new
-  hears_off Next has list = subst (λ (n : ℕ). AnswersGiven old before given n Next new) number_is
-      (answers_off old new before place w y given heard holds engine next hears_it of at is_answer keeps else stands has list)
+  pub hears_off : (Next : NextStep → Type 0) → Next next → new.list.items ≡ remove (slice_set old.list.items place y) place → is_end next ≡ true → AnswersGiven old before given i.number Next new
+  hears_off Next has list ended = subst (λ (n : ℕ). AnswersGiven old before given n Next new) number_is
+      (answers_off old new before place w y given heard holds engine next hears_it of at is_answer keeps else stands has list ended)

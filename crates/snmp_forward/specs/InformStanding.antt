@@ -2,7 +2,7 @@
 --
 -- `InformsStand`: all that is known of them. `ReceiverHappens`, `InformSendHappens`: what happens by a call, and that
 -- it is lawful after what happened before. `InformsStay`: what never changes. `AreAsBefore`: nothing changes.
-use Rattle.std.specs.Prelude.{◌≡◌, ◌≢◌, ◌⊎◌, ◌<◌, ◌≤◌, ◌-◌, ◌^◌, ◌/◌, ℕ, List, ◌∷◌, All, AllPairs, Option, Some, IsSome, Ok, Err, length, remove, slice_get, slice_set}
+use Rattle.std.specs.Prelude.{◌≡◌, ◌≢◌, ◌⊎◌, ◌<◌, ◌≤◌, ◌-◌, ◌^◌, ◌/◌, ℕ, List, ◌∷◌, All, AllPairs, Contains, false, Option, Some, IsSome, Ok, Err, length, remove, slice_get, slice_set}
 use Rattle.std.specs.FinMap as map
 use Rattle.snmp_message.specs.declared.refusal.Refusal.{Refusal}
 use Rattle.snmp_incoming.specs.Outcome.{Given}
@@ -18,7 +18,8 @@ use Rattle.snmp_requests.specs.declared.device_request.SentMessage.TheVariants.{
 use Rattle.snmp_requests.specs.declared.outstanding.OutstandingRequest.{OutstandingRequest}
 use Rattle.snmp_requests.specs.declared.outstanding.TheConstants.{REQUESTS_LIMIT}
 use Rattle.snmp_forward.specs.InformHistory.{Accepted, Asked, InformEnd, InformHappening, InformSetting, IsAccepted, IsHeardIn}
-use Rattle.snmp_forward.specs.InformHistory.{IsInformLawful, StandsAt, answers, asked_with, asks, ends, inform_of}
+use Rattle.snmp_forward.specs.InformHistory.{IsInformLawful, StandsAt, answers, asked_with, asks, begins, ends}
+use Rattle.snmp_forward.specs.InformHistory.{inform_of}
 use Rattle.snmp_forward.specs.InformHistory.{known_of, no_token, refused, tried}
 use Rattle.snmp_forward.specs.WaitingInforms.{IsSentInform}
 use Rattle.snmp_forward.specs.declared.exchange.InformLimits.{InformLimits}
@@ -52,8 +53,15 @@ pub record InformStands (limits : InformLimits) (requests : Outstanding) (before
   pub located : (m : SentMessage) → w.exchange.request.sent ≡ Some m → m ≢ Discovery → IsSome w.engine
   pub waits : (token : ℕ) → w.token ≡ Some token → IsWaitedFor requests before w token
 
+-- the Inform of this number is among them
+abbrev pub IsKept : List WaitingInform → ℕ → Type 0
+IsKept list n = (w : WaitingInform) × Contains list w × (w.number ≡ n)
+
 pub record InformsStand (before : List InformHappening) (f : Informs) : Type 0 where
   pub all : All (InformStands f.limits f.requests before) f.list.items
+  -- each waits that has begun, and hasn't ended
+  pub kept : (n : ℕ) (i : Inform) → Contains before (begins n i) → (known_of n before).over ≡ false
+      → IsKept f.list.items n
   -- their numbers rise
   pub rise : AllPairs (λ (a b : WaitingInform). a.number < b.number) f.list.items
   -- nothing happened to a later one
@@ -72,6 +80,11 @@ pub record InformHappens (old : Informs) (before : List InformHappening) (happen
 -- as many wait as may, or no number is left
 abbrev pub IsFull : Informs → Type 0
 IsFull f = (f.most ≤ length f.list.items) ⊎ (f.next ≡ 2 ^ 64 - 1)
+
+-- nothing happens: the same Informs wait
+pub record IsStill (old : Informs) (before : List InformHappening) (new : Informs) : Type 0 where
+  pub list : new.list.items ≡ old.list.items
+  pub stands : InformsStand before new
 
 -- ---- between the functions
 
@@ -138,7 +151,7 @@ IsGoingOn next = (next ≡ step.Wait) ⊎ ((m : SentMessage) × (next ≡ step.S
 -- what becomes of an accepted message
 abbrev pub AnswerHappens : Informs → List InformHappening → Given → ReceiverTaken → Informs → Type 0
 AnswerHappens old before given (taken.Refused why) new = ⊥
-AnswerHappens old before given taken.NoAnswer new = InformsStand before new
+AnswerHappens old before given taken.NoAnswer new = IsStill old before new
 AnswerHappens old before given (taken.Heard n) new = AnswersGiven old before given n IsGoingOn new
 AnswerHappens old before given (taken.Acknowledged n) new =
     AnswersGiven old before given n (λ next. next ≡ step.Answered) new
@@ -158,9 +171,9 @@ pub record HearsOf (old : Informs) (before : List InformHappening) (now : ℕ) (
 -- what becomes of a datagram
 abbrev pub ReceiverHappens : Informs → List InformHappening → ℕ → List ℕ → ReceiverTaken → Informs → Type 0
 ReceiverHappens old before now datagram (taken.Refused why) new =
-    Takes old.manager (now / 1000) datagram (Some (Err why)) new.manager × InformsStand before new
+    Takes old.manager (now / 1000) datagram (Some (Err why)) new.manager × IsStill old before new
 ReceiverHappens old before now datagram taken.NoAnswer new =
-    ((given : Given) × Takes old.manager (now / 1000) datagram (Some (Ok given)) new.manager) × InformsStand before new
+    ((given : Given) × Takes old.manager (now / 1000) datagram (Some (Ok given)) new.manager) × IsStill old before new
 ReceiverHappens old before now datagram (taken.Heard n) new = HearsOf old before now datagram n IsGoingOn new
 ReceiverHappens old before now datagram (taken.Acknowledged n) new =
     HearsOf old before now datagram n (λ next. next ≡ step.Answered) new
@@ -203,7 +216,7 @@ InformSendHappens old before now salt first_id (out.Unsent n receiver why) new =
     × InformHappens old before (ends n receiver now (refused message old.manager by why)) new
 InformSendHappens old before now salt first_id (out.GivenUp n receiver hint) new =
     GivesUpOne old before now first_id n receiver hint new
-InformSendHappens old before now salt first_id out.Nothing new = InformsStand before new
+InformSendHappens old before now salt first_id out.Nothing new = IsStill old before new
 
 -- ---- what stays
 

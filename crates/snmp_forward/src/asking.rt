@@ -84,7 +84,7 @@ impl Receivers {
 
 /// What becomes of a message for a receiver.
 #[derive(Drop)]
-pub enum AskedWith {
+pub(crate) enum AskedWith {
     /// This datagram goes to the receiver, and this is remembered of it.
     Sends {
         datagram: Vec<u8>,

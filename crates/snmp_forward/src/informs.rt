@@ -154,7 +154,7 @@ impl Informs {
     pub fn is_full(&self) -> bool
         ensures { IsTrue result ↔ IsFull self.now }
     {
-        self.list.len() >= self.most || self.next == u64::MAX
+        self.len() >= self.most || self.next == u64::MAX
     }
 
     /// Returns the moment, in milliseconds, from which on `next` has something to do by time alone.

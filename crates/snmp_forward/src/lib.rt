@@ -123,7 +123,6 @@ mod sealing;
 mod trap;
 mod waiting_inform;
 
-pub use asking::AskedWith;
 pub use exchange::{InformExchange, InformLimits, InformTurn};
 pub use exchange_laws::{an_inform_is_asked_as_a_request, an_inform_is_sent_within_its_tries};
 pub use forwarder::{Forwarded, Forwarder, TrapTaken};

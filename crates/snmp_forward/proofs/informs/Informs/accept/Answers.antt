@@ -5,7 +5,7 @@ use Rattle.snmp_msg.specs.Pdu.{pdu_of}
 use Rattle.snmp_incoming.specs.Answers.{given_of}
 use Rattle.snmp_forward.specs.declared.waiting_inform.WaitingInform.{WaitingInform}
 use Rattle.snmp_forward.proofs.InformAnswers.{answer_as, answered_of, keeps_told}
-use Rattle.snmp_forward.proofs.InformKeeping.{still}
+use Rattle.snmp_forward.proofs.InformKeeping.{nothing_happens, still}
 use Rattle.snmp_forward.proofs.informs.Informs.accept.Goals as goal
 
 pub returns-in_default-clause-happens : goal.returns-in_default-clause-happens
@@ -15,7 +15,7 @@ returns-in_default-clause-happens c = λ before stands.
     let front = c.scoped-scoped.ensures in
     let pdu = c.pdu-pdu.ensures.is_pdu (contexts_of c.scoped-scoped.result) front in
     let keeps = keeps_told old.requests g (contexts_of c.scoped-scoped.result) (pdu_of c.pdu-pdu.result) c.take_answer.result c.take_answer.new.self (c.take_answer.ensures (contexts_of c.scoped-scoped.result) (pdu_of c.pdu-pdu.result) front pdu) in
-    still old _ before refl refl refl refl keeps stands
+    nothing_happens old _ before refl refl refl refl keeps stands
 
 pub returns-in_default-place_of-clause-happens : goal.returns-in_default-place_of-clause-happens
 returns-in_default-place_of-clause-happens c = λ before stands.
@@ -24,7 +24,7 @@ returns-in_default-place_of-clause-happens c = λ before stands.
     let front = c.scoped-scoped.ensures in
     let pdu = c.pdu-pdu.ensures.is_pdu (contexts_of c.scoped-scoped.result) front in
     let keeps = keeps_told old.requests g (contexts_of c.scoped-scoped.result) (pdu_of c.pdu-pdu.result) c.take_answer.result c.take_answer.new.self (c.take_answer.ensures (contexts_of c.scoped-scoped.result) (pdu_of c.pdu-pdu.result) front pdu) in
-    still old _ before refl refl refl refl keeps stands
+    nothing_happens old _ before refl refl refl refl keeps stands
 
 pub hear-requires : goal.hear-requires
 hear-requires c = record {

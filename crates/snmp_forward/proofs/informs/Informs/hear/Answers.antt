@@ -34,7 +34,7 @@ returns-in-Answered-clause-happens c = λ before given w stands of at answer.
     let at_i = slice_get_read old.list.items (length old.list.items) c.args.place i refl c.requires.place c.index.ensures in
     let at_x = slice_get_read old.list.items (length old.list.items) c.args.place x refl c.requires.place c.index_mut.ensures.value in
     hears_off old _ before c.args.place i x w c.hear-step.new.self given c.args.answered.heard c.args.holds_clock c.args.engine.now c.hear-step.result Answered c.hear-step.ensures c.in-Answered.is of at_i at_x at answer c.settle.ensures
-    (record { engine = refl; manager = refl; limits = refl; most = refl; next = refl }) stands (λ (n : NextStep). n ≡ Answered) refl c.remove.ensures.items
+    (record { engine = refl; manager = refl; limits = refl; most = refl; next = refl }) stands (λ (n : NextStep). n ≡ Answered) refl c.remove.ensures.items refl
 
 pub returns-in-Refused-clause-happens : goal.returns-in-Refused-clause-happens
 returns-in-Refused-clause-happens c = λ before given w stands of at answer.
@@ -44,4 +44,4 @@ returns-in-Refused-clause-happens c = λ before given w stands of at answer.
     let at_i = slice_get_read old.list.items (length old.list.items) c.args.place i refl c.requires.place c.index.ensures in
     let at_x = slice_get_read old.list.items (length old.list.items) c.args.place x refl c.requires.place c.index_mut.ensures.value in
     hears_off old _ before c.args.place i x w c.hear-step.new.self given c.args.answered.heard c.args.holds_clock c.args.engine.now c.hear-step.result (Refused c.in-Refused.counter) c.hear-step.ensures c.in-Refused.is of at_i at_x at answer c.settle.ensures
-    (record { engine = refl; manager = refl; limits = refl; most = refl; next = refl }) stands (λ (n : NextStep). n ≡ Refused c.in-Refused.counter) refl c.remove-in-Refused.ensures.items
+    (record { engine = refl; manager = refl; limits = refl; most = refl; next = refl }) stands (λ (n : NextStep). n ≡ Refused c.in-Refused.counter) refl c.remove-in-Refused.ensures.items refl

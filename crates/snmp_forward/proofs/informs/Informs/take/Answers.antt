@@ -4,7 +4,7 @@ use Rattle.snmp_incoming.specs.Outcome.{Given}
 use Rattle.snmp_message.specs.declared.refusal.Refusal.{Refusal}
 use Rattle.snmp_manager.specs.Takes.{Takes}
 use Rattle.snmp_forward.proofs.InformAnswers.{receives, refusal_told}
-use Rattle.snmp_forward.proofs.InformKeeping.{keeps_all, still}
+use Rattle.snmp_forward.proofs.InformKeeping.{keeps_all, nothing_happens, still}
 use Rattle.snmp_forward.proofs.InformSteps.{with_manager}
 use Rattle.snmp_forward.proofs.informs.Informs.take.Goals as goal
 
@@ -18,4 +18,4 @@ pub returns-else-is_memory-clause-happens : goal.returns-else-is_memory-clause-h
 returns-else-is_memory-clause-happens c = λ before stands.
     let old = c.args.self.now in
     (subst (λ (answer : Option (Result Given Refusal)). Takes old.manager (c.args.now / 1000) c.args.datagram.now answer c.take.new.self) (refusal_told c.in-Err.refused.refusal c.if-is_memory.ensures) c.in-Err.ensures.takes,
-    still old _ before refl refl refl refl (keeps_all old.requests) stands)
+    nothing_happens old _ before refl refl refl refl (keeps_all old.requests) stands)
