@@ -131,7 +131,7 @@ module _ (limits : InformLimits) where
   sends_left m n now x new may sent =
       let to : new.request.sent ≡ Some n = ap (λ (r : DeviceRequest). r.sent) sent.request ∙ may.asked in
       let after : left_at limits.tries m new ≡ left limits.tries m (Some n) (x.times + 1) =
-          ap (λ (s : Option SentMessage). left limits.tries m s new.times) to ∙ ap (left limits.tries m (Some n)) sent.times in
+      ap (λ (s : Option SentMessage). left limits.tries m s new.times) to ∙ ap (left limits.tries m (Some n)) sent.times in
       let before : left_at limits.tries m x ≡ left limits.tries m (Some n) x.times = ap (λ (s : Option SentMessage). left limits.tries m s x.times) may.asked in
       omega (arith, after, before, tried limits.tries m n x.times may.tries)
 

@@ -187,10 +187,12 @@ pub unsent_one : (old new : Informs) (held : Held) (before : List InformHappenin
     → IsRemoved (with_manager old held) place gone new → IsAt old place x → HoldsAt (λ (y : WaitingInform). MayBeTried old.limits y.exchange m) old.list.items place → RefusesMessage old.manager old.engine x.engine x.inform m by why
     → IsAt old place w → w.exchange.due ≤ now → InformsStand before old → InformSendHappens old before now salt first_id (out.Unsent x.number x.inform.receiver why) new
 unsent_one old new held before place now first_id salt gone x w m by why same removed there may refuses at due stands =
-    let one : w ≡ x = same_Some w x (sym at ∙ there) in
-    (m, by, refuses_one old new before place now gone x m by why (subst (λ (h : Held). IsRemoved (with_manager old h) place gone new) same removed) there (subst (λ (y : WaitingInform). y.exchange.due ≤ now) one due)
-    (may_there old place m x may there) refuses stands)
-
+    let one : w ≡ x = same_Some w x (sym at ∙ there) in (
+      m,
+      by,
+      refuses_one old new before place now gone x m by why (subst (λ (h : Held). IsRemoved (with_manager old h) place gone new) same removed) there (subst (λ (y : WaitingInform). y.exchange.due ≤ now) one due)
+          (may_there old place m x may there) refuses stands,
+    )
 
 -- ---- an answer is heard
 

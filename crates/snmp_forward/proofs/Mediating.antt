@@ -38,13 +38,16 @@ module _ (one : IsOne) (tables : Tables) (devices : List Device) (receivers : Li
         (subst (λ (q : PduParts). MayBeNotified tables may.to may.from.context.items (variables_of q.list) may.trap_oid) same.1 may.may)))
 
     pub its_inform : (inform : Inform) → from.community.items ≡ community → MayBeNotified tables to from.context.items (variables_of p.list) oid → IsInformOf receiver to from.context.items w inform → IsInformFor tables devices receivers device w receiver (Some inform)
-    its_inform inform same may of = (record {
-      from = from;
-      is_from = at;
-      to = to;
-      is_to = goes;
-      pdu = p;
-      trap_oid = oid;
-      is = subst (λ (x : List ℕ). IsNotification w x p oid) (sym same) is;
-      may = may;
-    }, of)
+    its_inform inform same may of = (
+      record {
+        from = from;
+        is_from = at;
+        to = to;
+        is_to = goes;
+        pdu = p;
+        trap_oid = oid;
+        is = subst (λ (x : List ℕ). IsNotification w x p oid) (sym same) is;
+        may = may;
+      },
+      of,
+    )

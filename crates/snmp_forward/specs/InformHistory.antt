@@ -3,7 +3,8 @@
 -- A history is a list of what happened, the latest first. `known_of`: what is known of an Inform by what happened to
 -- it. `IsInformLawful`: the laws, of what happens after a history. `AreInformsLawful`: each part of a history is lawful
 -- after the parts before it.
-use Rattle.std.specs.Prelude.{◌≡◌, ◌≢◌, ◌<◌, ◌≤◌, ⊤, ℕ, Bool, true, false, cond, nat_eq, List, [], ◌∷◌, All, Contains, Option, Some, None, IsSome, Ok, option_map}
+use Rattle.std.specs.Prelude.{◌≡◌, ◌≢◌, ◌<◌, ◌≤◌, ⊤, ℕ, Bool, true, false, cond, nat_eq, List, [], ◌∷◌, All, Contains}
+use Rattle.std.specs.Prelude.{Option, Some, None, IsSome, Ok, option_map}
 use Rattle.usm_users.specs.User.{User}
 use Rattle.snmp_message.specs.Scoped.{Contexts, ScopedFront}
 use Rattle.snmp_message.specs.declared.refusal.Refusal.{Refusal}
@@ -106,7 +107,12 @@ known_after (answers number what heard) k = record {
   asked = waits_after heard.turn k.asked;
   over = is_end heard.turn;
 }
-known_after (ends number receiver now why) k = record { steps = k.steps; engine = k.engine; asked = k.asked; over = true }
+known_after (ends number receiver now why) k = record {
+  steps = k.steps;
+  engine = k.engine;
+  asked = k.asked;
+  over = true;
+}
 
 abbrev pub known_of : ℕ → List InformHappening → InformKnown
 known_of n [] = nothing_known

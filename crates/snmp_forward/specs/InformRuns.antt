@@ -1,8 +1,8 @@
 -- What comes to Informs and goes out for them, call by call.
 --
 -- `InformEvent`: a call and its answer. `IsInformRun`: the events of Informs, the latest first. `IsInformHistoryOf`: a
--- history of these events that is lawful. `times_ended`: how often an Inform ended. `IsOwnResponse`: an accepted message
--- is the Response to the very Inform. `IsMediatedAsk`: the receiver of an Inform may be notified of all of it.
+-- history of these events that is lawful. `times_ended`: how often an Inform ended. `IsOwnResponse`: an accepted
+-- message is the Response to the very Inform. `IsMediatedAsk`: the receiver of an Inform may be notified of all of it.
 use Rattle.std.specs.Prelude.{◌≡◌, ◌+◌, ℕ, Bool, true, false, cond, nat_eq, List, [], ◌∷◌, ◌++◌, Some}
 use Rattle.snmp_incoming.specs.Outcome.{Given}
 use Rattle.snmp_gate.specs.declared.devices.Device.{Device}
@@ -13,8 +13,10 @@ use Rattle.snmp_requests.specs.declared.device_request.Heard.TheVariants.{Respon
 use Rattle.snmp_requests.specs.declared.device_request.NextStep.{NextStep}
 use Rattle.snmp_requests.specs.declared.device_request.NextStep.TheVariants as step
 use Rattle.snmp_requests.specs.declared.device_request.SentMessage.TheVariants.{Request}
-use Rattle.snmp_forward.specs.InformHistory.{AreInformsLawful, InformHappening, InformSetting, IsHeardIn, answers, asked_with, asks, begins, ends, is_end, known_of}
-use Rattle.snmp_forward.specs.InformStanding.{AreAsBefore, InformHappens, InformSendHappens, InformsStand, InformsStay, ReceiverHappens, setting_of}
+use Rattle.snmp_forward.specs.InformHistory.{AreInformsLawful, InformHappening, InformSetting, IsHeardIn, answers}
+use Rattle.snmp_forward.specs.InformHistory.{asked_with, asks, begins, ends, is_end, known_of}
+use Rattle.snmp_forward.specs.InformStanding.{AreAsBefore, InformHappens, InformSendHappens, InformsStand, InformsStay}
+use Rattle.snmp_forward.specs.InformStanding.{ReceiverHappens, setting_of}
 use Rattle.snmp_forward.specs.Informs.{IsMediated, SendsInform}
 use Rattle.snmp_forward.specs.declared.inform.Inform.{Inform}
 use Rattle.snmp_forward.specs.declared.informs.InformSent.{InformSent}

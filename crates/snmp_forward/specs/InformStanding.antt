@@ -2,7 +2,8 @@
 --
 -- `InformsStand`: all that is known of them. `ReceiverHappens`, `InformSendHappens`: what happens by a call, and that
 -- it is lawful after what happened before. `InformsStay`: what never changes. `AreAsBefore`: nothing changes.
-use Rattle.std.specs.Prelude.{◌≡◌, ◌≢◌, ◌⊎◌, ◌<◌, ◌≤◌, ◌-◌, ◌^◌, ◌/◌, ℕ, List, ◌∷◌, All, AllPairs, Contains, false, Option, Some, IsSome, Ok, Err, length, remove, slice_get, slice_set}
+use Rattle.std.specs.Prelude.{◌≡◌, ◌≢◌, ◌⊎◌, ◌<◌, ◌≤◌, ◌-◌, ◌^◌, ◌/◌, ℕ, List, ◌∷◌, All, AllPairs, Contains, false}
+use Rattle.std.specs.Prelude.{Option, Some, IsSome, Ok, Err, length, remove, slice_get, slice_set}
 use Rattle.std.specs.FinMap as map
 use Rattle.snmp_message.specs.declared.refusal.Refusal.{Refusal}
 use Rattle.snmp_incoming.specs.Outcome.{Given}
@@ -17,7 +18,8 @@ use Rattle.snmp_requests.specs.declared.device_request.SentMessage.{SentMessage}
 use Rattle.snmp_requests.specs.declared.device_request.SentMessage.TheVariants.{Discovery}
 use Rattle.snmp_requests.specs.declared.outstanding.OutstandingRequest.{OutstandingRequest}
 use Rattle.snmp_requests.specs.declared.outstanding.TheConstants.{REQUESTS_LIMIT}
-use Rattle.snmp_forward.specs.InformHistory.{Accepted, Asked, InformEnd, InformHappening, InformSetting, IsAccepted, IsHeardIn}
+use Rattle.snmp_forward.specs.InformHistory.{Accepted, Asked, InformEnd, InformHappening, InformSetting, IsAccepted}
+use Rattle.snmp_forward.specs.InformHistory.{IsHeardIn}
 use Rattle.snmp_forward.specs.InformHistory.{IsInformLawful, StandsAt, answers, asked_with, asks, begins, ends}
 use Rattle.snmp_forward.specs.InformHistory.{inform_of}
 use Rattle.snmp_forward.specs.InformHistory.{known_of, no_token, refused, tried}
@@ -212,7 +214,8 @@ pub record SendsOne (old : Informs) (before : List InformHappening) (now : ℕ) 
 abbrev pub InformSendHappens : Informs → List InformHappening → ℕ → List ℕ → ℕ → InformSent → Informs → Type 0
 InformSendHappens old before now salt first_id (out.ToReceiver n receiver message datagram) new =
     SendsOne old before now salt n receiver message datagram.items new
-InformSendHappens old before now salt first_id (out.Unsent n receiver why) new = (message : SentMessage) × (by : Sealing)
+InformSendHappens old before now salt first_id (out.Unsent n receiver why) new =
+    (message : SentMessage) × (by : Sealing)
     × InformHappens old before (ends n receiver now (refused message old.manager by why)) new
 InformSendHappens old before now salt first_id (out.GivenUp n receiver hint) new =
     GivesUpOne old before now first_id n receiver hint new

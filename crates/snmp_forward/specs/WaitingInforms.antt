@@ -1,11 +1,12 @@
 -- Informs that wait to be acknowledged.
 --
 -- `IsNewInform`: one of which nothing was sent. `SendsMessage`, `RefusesMessage`: what becomes of a message for its
--- receiver.
--- `IsSentInform`: the message that is due is sent. `HearsInform`: an answer came to the message that was sent last.
--- `HasToken`: its answer is waited for under this token. `IsDue`: something is to be done for it. `IsFirstOf`: the place of the first element with a property.
--- `IsFirstDue`: when something is to be done for the first of them.
-use Rattle.std.specs.Prelude.{◌≡◌, ◌≢◌, ◌<◌, ◌≤◌, ℕ, Bool, List, [], All, Contains, Option, Some, None, Err, slice_get, take}
+-- receiver. `IsSentInform`: the message that is due is sent. `HearsInform`: an answer came to the message that was
+-- sent last. `HasToken`: its answer is waited for under this token. `IsDue`: something is to be done for it.
+-- `IsFirstOf`: the place of the first element with a property. `IsFirstDue`: when something is to be done for the first
+-- of them.
+use Rattle.std.specs.Prelude.{◌≡◌, ◌≢◌, ◌<◌, ◌≤◌, ℕ, Bool, List, [], All, Contains, Option, Some, None, Err, slice_get}
+use Rattle.std.specs.Prelude.{take}
 use Rattle.snmp_requests.specs.declared.device_request.Heard.{Heard}
 use Rattle.snmp_requests.specs.declared.device_request.Known.TheVariants as known
 use Rattle.snmp_requests.specs.declared.device_request.NextStep.{NextStep}

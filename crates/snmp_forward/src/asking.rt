@@ -22,7 +22,7 @@ use std::alloc::{AllocError, Global};
 use vacm_core::Vacm;
 
 impl Inform {
-    /// Returns the Inform by which the receiver with this number is told what a device sent, in the device's context.
+    /// Returns the Inform by which the receiver with this number is notified of what a device sent, in its context.
     /// The error is out of memory.
     pub(crate) fn new(
         alloc: Global,
@@ -45,10 +45,10 @@ impl Inform {
 }
 
 impl Receivers {
-    /// Returns the Inform by which the receiver with this number is told of a datagram that came from the device with
-    /// that number, each counted from 0. None: it isn't a notification with the device's community, or the receiver
-    /// may not be notified of all of it in the device's context (RFC 3413, section 3.3, steps 3 and 4). The error is
-    /// out of memory.
+    /// Returns the Inform by which the receiver with this number is notified of a datagram that came from the device
+    /// with that number, each counted from 0. None: it isn't a notification with the device's community, or the
+    /// receiver may not be notified of all of it in the device's context (RFC 3413, section 3.3, steps 3 and 4). The
+    /// error is out of memory.
     pub fn inform(
         &self,
         alloc: Global,
@@ -86,10 +86,7 @@ impl Receivers {
 #[derive(Drop)]
 pub(crate) enum AskedWith {
     /// This datagram goes to the receiver, and this is remembered of it.
-    Sends {
-        datagram: Vec<u8>,
-        pending: Pending,
-    },
+    Sends { datagram: Vec<u8>, pending: Pending },
     /// No datagram can be sealed for the receiver's user.
     Refused(Refusal),
 }
@@ -99,10 +96,7 @@ fn asked_with(sent: Result<(Vec<u8>, Pending), RefusedAt>) -> Result<AskedWith, 
     ensures { IfOk result (IsAskedOf sent) }
 {
     match sent {
-        Ok((datagram, pending)) => Ok(AskedWith::Sends {
-            datagram,
-            pending,
-        }),
+        Ok((datagram, pending)) => Ok(AskedWith::Sends { datagram, pending }),
         Err(refused) if refused.is_memory() => Err(AllocError),
         Err(refused) => Ok(AskedWith::Refused(refused.refusal)),
     }
@@ -114,10 +108,7 @@ pub(crate) fn write_discovery(manager: &Manager, by: &Sealing) -> Result<AskedWi
     ensures { IfOk result (IsDiscoveryWritten manager.now by.now) }
 {
     let (datagram, pending) = manager.discover(by.id)?;
-    Ok(AskedWith::Sends {
-        datagram,
-        pending,
-    })
+    Ok(AskedWith::Sends { datagram, pending })
 }
 
 /// Writes the request of nothing by whose Report an engine's boots and time are learned (RFC 3414, section 4). The
@@ -166,7 +157,12 @@ pub(crate) fn write_inform(
         Err(_) => return Ok(AskedWith::Refused(Refusal::NotMessage)),
     };
     let bindings = bindings_of(alloc, &notification.pdu)?;
-    let front = front_of(own, &inform.context, PduType::InformRequest, &notification.pdu);
+    let front = front_of(
+        own,
+        &inform.context,
+        PduType::InformRequest,
+        &notification.pdu,
+    );
     let target = Target {
         engine,
         user: &inform.user,

@@ -12,7 +12,8 @@ ghost use Rattle.snmp_requests.specs.declared.outstanding.TheConstants.{REQUESTS
 ghost use Rattle.snmp_forward.specs.Exchange.{MayBeTried};
 ghost use Rattle.snmp_forward.specs.InformHistory.{InformEnd, InformHappening, IsReason, begins};
 ghost use Rattle.snmp_forward.specs.InformStanding.{AnswerHappens, AreAsBefore, HasNoRoom, InformHappens};
-ghost use Rattle.snmp_forward.specs.InformStanding.{InformSendHappens, InformsStand, InformsStay, IsAnswered, IsAt, IsFull, IsGivenUp};
+ghost use Rattle.snmp_forward.specs.InformStanding.{InformSendHappens, InformsStand, InformsStay, IsAnswered};
+ghost use Rattle.snmp_forward.specs.InformStanding.{IsAt, IsFull, IsGivenUp};
 ghost use Rattle.snmp_forward.specs.InformStanding.{IsRemoved, IsSameElse, KeepsRequests, ReceiverHappens};
 ghost use Rattle.snmp_forward.specs.InformStanding.{WaitsForAnswer, setting_of};
 ghost use Rattle.snmp_forward.specs.WaitingInforms.{IsAddressed, IsDue, IsFirstDue};
@@ -245,10 +246,7 @@ impl Informs {
             }
             NextStep::Refused(counter) => {
                 self.list.remove(place);
-                ReceiverTaken::Denied {
-                    number,
-                    counter,
-                }
+                ReceiverTaken::Denied { number, counter }
             }
         }
     }
@@ -260,12 +258,7 @@ impl Informs {
     /// 2147483647, which is to be random.
     ///
     /// The error is out of memory. Then all is as before, and the call may be made again.
-    pub fn next(
-        &mut self,
-        now: u64,
-        salt: [u8; 8],
-        first_id: u32,
-    ) -> Result<InformSent, AllocError>
+    pub fn next(&mut self, now: u64, salt: [u8; 8], first_id: u32) -> Result<InformSent, AllocError>
         requires first { first_id ≤ MAX_INTEGER32 }
         ensures happens { IfOk result (λ sent. (before : List InformHappening) → InformsStand before self.old
             → InformSendHappens self.old before now salt first_id sent self.new) }
@@ -355,10 +348,7 @@ impl Informs {
         let waiting = &self.list[place];
         let (number, receiver) = (waiting.number, waiting.inform.receiver);
         match waiting.write(self.alloc, &mut self.manager, &self.engine, message, &by)? {
-            AskedWith::Sends {
-                datagram,
-                pending,
-            } => {
+            AskedWith::Sends { datagram, pending } => {
                 self.wait_for(place, message, now, token, pending)?;
                 Ok(InformSent::ToReceiver {
                     number,
@@ -400,10 +390,10 @@ impl Informs {
         ensures err { OnErr result (AreAsBefore self.old self.new) }
     {
         let waiting = &mut self.list[place];
-        let (engine, user) = waiting.addressed(message);
+        let (engine, user) = waiting.addressee(message);
         self.requests.add(token, pending, engine, user)?;
         forget(&mut self.requests, waiting.token);
-        waiting.sent(&self.limits, now, token);
+        waiting.mark_sent(&self.limits, now, token);
         Ok(())
     }
 }

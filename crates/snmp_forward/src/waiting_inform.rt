@@ -89,7 +89,7 @@ impl WaitingInform {
     }
 
     /// Returns the engine and the user to which this message is addressed: none for a discovery.
-    pub(crate) fn addressed(&self, message: SentMessage) -> (&[u8], &[u8])
+    pub(crate) fn addressee(&self, message: SentMessage) -> (&[u8], &[u8])
         ensures { IsAddressed self.now.engine self.now.inform message result.0.now result.1.now }
     {
         let Some(engine) = &self.engine else {
@@ -111,7 +111,8 @@ impl WaitingInform {
         by: &Sealing,
     ) -> Result<AskedWith, AllocError>
         requires id { by.now.id ≤ MAX_INTEGER32 }
-        ensures written { IfOk result (IsMessageWritten manager.old own.now self.now.engine self.now.inform message by.now) }
+        ensures written { IfOk result (IsMessageWritten manager.old own.now self.now.engine self.now.inform message
+            by.now) }
         ensures same { manager.new ≡ manager.old }
     {
         let Some(engine) = &self.engine else {
@@ -125,7 +126,7 @@ impl WaitingInform {
     }
 
     /// The message that is due was sent at this moment, and an answer to it is waited for under this token.
-    pub(crate) fn sent(&mut self, limits: &InformLimits, now: u64, token: u64)
+    pub(crate) fn mark_sent(&mut self, limits: &InformLimits, now: u64, token: u64)
         requires { self.old.exchange.times < limits.now.tries }
         ensures { IsSentInform limits.now now token self.old self.new }
     {

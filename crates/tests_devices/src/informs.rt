@@ -3,9 +3,7 @@
 use engine_clock::{Clocks, EngineId};
 use snmp_agent::Agent;
 use snmp_ber::Level;
-use snmp_forward::{
-    Inform, InformLimits, InformSent, Informs, Receiver, ReceiverTaken, Receivers,
-};
+use snmp_forward::{Inform, InformLimits, InformSent, Informs, Receiver, ReceiverTaken, Receivers};
 use snmp_gate::{Device, Devices};
 use snmp_manager::Manager;
 use snmpsec_config::Config;
@@ -170,7 +168,16 @@ fn a_report_without_authentication_ends_no_inform(rt: HostRuntime) -> Result<(),
         assert!(rt; matches!(next(&mut informs, now + 4_999)?, InformSent::Nothing));
     }
     let last = next(&mut informs, 16_000)?;
-    assert!(rt; matches!(last, InformSent::GivenUp { number: 0, hint: Some(3), .. }));
+    assert!(rt;
+        matches!(
+            last,
+            InformSent::GivenUp {
+                number: 0,
+                hint: Some(3),
+                ..
+            }
+        )
+    );
     assert_eq!(rt; informs.len(), 0);
     Ok(())
 }
