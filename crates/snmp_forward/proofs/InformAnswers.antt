@@ -1,5 +1,5 @@
 -- What an accepted message is to the Informs that wait.
-use Rattle.std.specs.Prelude.{◌≡◌, ◌≢◌, ◌/◌, ℕ, List, ◌∷◌, Option, Some, None, Result, Ok, Err}
+use Rattle.std.specs.Prelude.{◌≡◌, ◌≢◌, ◌/◌, ℕ, List, ◌∷◌, All, Option, Some, None, Result, Ok, Err}
 use Rattle.std.specs.FinMap as map
 use Rattle.std.proofs.Common.{refl, sym, ap, subst, ◌∙◌}
 use Rattle.std.proofs.lemmas.Option.{same_Some, slice_get_within}
@@ -21,7 +21,8 @@ use Rattle.snmp_requests.specs.declared.device_request.Heard.TheVariants.{Respon
 use Rattle.snmp_requests.specs.declared.device_request.NextStep.{NextStep}
 use Rattle.snmp_requests.specs.declared.outstanding.OutstandingRequest.{OutstandingRequest}
 use Rattle.snmp_forward.specs.InformHistory.{Accepted, InformHappening, InformSetting, IsAccepted, IsInformLawful, answers, asked_with}
-use Rattle.snmp_forward.specs.InformStanding.{AnswerHappens, AnswersGiven, HearsOf, InformHappens, InformsStand, IsAnswered, IsAt, IsSameElse, KeepsRequests, ReceiverHappens, setting_of}
+use Rattle.snmp_forward.specs.InformStanding.{AnswerHappens, AnswersGiven, HeardHappens, HearsOf, InformHappens, InformsStand, IsAnswered, IsAt, IsForNone, IsSameElse, KeepsRequests, ReceiverHappens, setting_of}
+use Rattle.snmp_forward.specs.WaitingInforms.{HasToken}
 use Rattle.snmp_forward.specs.declared.informs.Informs.{Informs}
 use Rattle.snmp_forward.specs.declared.informs.ReceiverTaken.{ReceiverTaken}
 use Rattle.snmp_forward.specs.declared.informs.ReceiverTaken.TheVariants as taken
@@ -70,12 +71,21 @@ given_as old new q before g n Next a = record {
   happens = λ what whats accepted. let h = a.happens what whats accepted in record { lawful = h.lawful; stands = h.stands };
 }
 
-pub answer_as : (old new : Informs) (q : Outstanding) (before : List InformHappening) (g : Given) (r : ReceiverTaken) → AnswerHappens (with_requests old q) before g r new → AnswerHappens old before g r new
+pub answer_as : (old new : Informs) (q : Outstanding) (before : List InformHappening) (g : Given) (r : ReceiverTaken) → HeardHappens (with_requests old q) before g r new → AnswerHappens old before g r new
 answer_as old new q before g (taken.Refused why) h = h
-answer_as old new q before g taken.NoAnswer h = record { list = h.list; stands = h.stands }
+answer_as old new q before g taken.NoAnswer h = absurd h
 answer_as old new q before g (taken.Heard n) h = given_as old new q before g n _ h
 answer_as old new q before g (taken.Acknowledged n) h = given_as old new q before g n _ h
 answer_as old new q before g (taken.Denied n counter) h = given_as old new q before g n _ h
+
+-- ---- no answer
+
+pub none_told : (f : Informs) (g : Given) (new : Outstanding) → ((c : Contexts) (p : PduParts) → ScopedFront g.text c → PduText c.pdu p → TellsAnswered f.requests g c p None new) → IsForNone f g
+none_told f g new is c p front pdu k d short token r has there of = (is c p front pdu).0 (message_id_of token) r there
+
+pub other_told : (f : Informs) (g : Given) (told : AnsweredRequest) (new : Outstanding) → IsToldOf f.requests g told new → All (λ (w : WaitingInform). ¬ HasToken told.token w) f.list.items → IsForNone f g
+other_told f g told new is none c p front pdu k d short token r has there of =
+    (is c p front pdu).0.alone (message_id_of token) r there (λ same. none k d short (has ∙ ap Some (sym of ∙ same)))
 
 -- ---- with what the manager has learned
 
@@ -107,7 +117,7 @@ module _ (old new : Informs) (held : Held) (before : List InformHappening) (now 
 
   pub receives : (r : ReceiverTaken) → AnswerHappens (with_manager old held) before g r new → ReceiverHappens old before now datagram r new
   receives (taken.Refused why) h = absurd h
-  receives taken.NoAnswer h = ((g, takes_on), record { list = h.list; stands = h.stands })
+  receives taken.NoAnswer h = ((g, takes_on, h.0), record { list = h.1.list; stands = h.1.stands })
   receives (taken.Heard n) h = hears_of n _ h
   receives (taken.Acknowledged n) h = hears_of n _ h
   receives (taken.Denied n counter) h = hears_of n _ h

@@ -1,5 +1,5 @@
 -- What is known of the Informs that wait, as more happens.
-use Rattle.std.specs.Prelude.{◌≡◌, ◌≢◌, ◌<◌, ◌≤◌, ◌+◌, ◌-◌, ℕ, zero, suc, Bool, List, [], ◌∷◌, ◌++◌, All, AllPairs, Contains, MatchBool, None, Some, true, false, length, remove, slice_get, slice_index_or, slice_set}
+use Rattle.std.specs.Prelude.{◌≡◌, ◌≢◌, ◌<◌, ◌≤◌, ◌+◌, ◌-◌, ℕ, zero, suc, Bool, List, [], ◌∷◌, ◌++◌, All, AllPairs, Contains, MatchBool, None, Option, Some, true, false, length, remove, slice_get, slice_index_or, slice_set}
 use Rattle.std.specs.FinMap as map
 use Rattle.std.proofs.Common.{refl, sym, ap, subst, ◌∙◌, inl, inr, arith, length-append}
 use Rattle.std.proofs.lemmas.Bool.{cases_lt}
@@ -12,11 +12,11 @@ use Rattle.std.proofs.lemmas.Option.{same_Some, slice_get_within}
 use Rattle.snmp_gate.proofs.Pairs.{pairs_set}
 use Rattle.snmp_requests.specs.Outstanding.{IsAdded, IsEnded, IsFreeToken, Outstanding, Waits, message_id_of, without}
 use Rattle.snmp_requests.specs.declared.outstanding.OutstandingRequest.{OutstandingRequest}
-use Rattle.snmp_requests.proofs.Maps.{at_insert, at_remove, insert_here}
+use Rattle.snmp_requests.proofs.Maps.{at_insert, at_remove, insert_here, remove_apart}
 use Rattle.snmp_manager.specs.declared.pending.Pending.{Pending}
 use Rattle.snmp_forward.specs.ExchangeRuns.{ExchangeStep, IsExchangeRun}
 use Rattle.snmp_forward.specs.InformHistory.{InformHappening, InformKnown, StandsAt, begins, inform_of, known_after, known_of, nothing_known}
-use Rattle.snmp_forward.specs.InformStanding.{InformStands, InformsStand, IsAt, IsKept, IsSameElse, IsStill, IsWaitedFor, KeepsRequests}
+use Rattle.snmp_forward.specs.InformStanding.{HasRequest, InformStands, InformsStand, IsAt, IsKept, IsSameElse, IsStill, IsWaitedFor, KeepsOthers, KeepsRequests}
 use Rattle.snmp_forward.specs.WaitingInforms.{IsNewInform}
 use Rattle.snmp_requests.specs.DeviceRequests.{Begins}
 use Rattle.snmp_requests.specs.declared.device_request.SentMessage.{SentMessage}
@@ -57,7 +57,25 @@ pub keeps_given_up : (old new : Outstanding) (token : ℕ) (result : Bool) → M
 keeps_given_up old new token true ended = subst (KeepsRequests old) (sym ended.new_is) (keeps_without old (message_id_of token))
 keeps_given_up old new token false none = subst (KeepsRequests old) (sym none.1) (keeps_all old)
 
+pub keeps_others : (old new : Outstanding) (token : ℕ) (result : Bool) → MatchBool result (IsEnded old token new) ((¬ Waits old token) × (new ≡ old)) → KeepsOthers old (Some token) new
+keeps_others old new token true ended = λ t r differs there is.
+    let apart : message_id_of t ≢ message_id_of token = λ same.
+    let one : r ≡ ended.was.request = same_Some r ended.was.request (sym there ∙ ap (map.get old.requests) same ∙ ended.was.there) in
+    differs (ap Some (sym ended.was.token_is ∙ ap (λ (x : OutstandingRequest). x.token) (sym one) ∙ is)) in
+    ap (λ (all : Outstanding). map.get all.requests (message_id_of t)) ended.new_is ∙ remove_apart old.requests (message_id_of token) (message_id_of t) apart ∙ there
+keeps_others old new token false none = λ t r differs there is. ap (λ (all : Outstanding). map.get all.requests (message_id_of t)) none.1 ∙ there
+
 -- one more waits, and others may not
+pub added_there : (old : Outstanding) (token : ℕ) (pending : Pending) (middle new : Outstanding) (other : Option ℕ) → IsAdded old token pending middle → KeepsOthers middle other new → other ≢ Some token → HasRequest new token pending
+added_there old token pending middle new other added keeps differs =
+    let at : map.get middle.requests (message_id_of token) ≡ Some added.request =
+    ap (λ (all : Outstanding). map.get all.requests (message_id_of token)) added.new_is ∙ insert_here old.requests (message_id_of token) added.request in record {
+      request = added.request;
+      there = keeps token added.request differs at added.request_is.token_is;
+      token_is = added.request_is.token_is;
+      pending_is = added.request_is.pending_is;
+    }
+
 pub added_waits : (old : Outstanding) (token : ℕ) (pending : Pending) (middle new : Outstanding) → IsAdded old token pending middle → KeepsRequests middle new → (r : OutstandingRequest) → map.get new.requests (message_id_of token) ≡ Some r → r.token ≡ token
     → r.pending ≡ pending
 added_waits old token pending middle new added keeps r there is =

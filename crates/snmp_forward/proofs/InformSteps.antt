@@ -4,7 +4,8 @@ use Rattle.std.specs.FinMap as map
 use Rattle.std.specs.Global.{Vec}
 use Rattle.std.specs.List.{HoldsAt}
 use Rattle.std.proofs.Common.{refl, sym, ap, subst, ◌∙◌, inl, inr, arith}
-use Rattle.std.proofs.lemmas.Option.{same_Some}
+use Rattle.std.proofs.lemmas.Option.{same_Some, slice_get_within}
+use Rattle.std.proofs.lemmas.List.{get_or-set_same, length-set}
 use Rattle.snmp_incoming.specs.Outcome.{Given}
 use Rattle.snmp_message.specs.declared.refusal.Refusal.{Refusal}
 use Rattle.snmp_manager.specs.declared.pending.Pending.{Pending}
@@ -174,13 +175,28 @@ pub sends_one : (old new : Informs) (held : Held) (before : List InformHappening
     → SendsMessage old.manager old.engine x.engine x.inform m by pending datagram.items → IsAt old place w → w.exchange.due ≤ now → InformsStand before old
     → InformSendHappens old before now salt first_id (out.ToReceiver x.number x.inform.receiver m datagram) new
 sends_one old new held before place now token first_id salt x w m by pending datagram same waits else there seconds salt_is may goes at due stands =
-    let one : w ≡ x = same_Some w x (sym at ∙ there) in record {
+    let one : w ≡ x = same_Some w x (sym at ∙ there) in
+    let mine = subst (λ (h : Held). WaitsForAnswer (with_manager old h) place now token pending new) same waits in
+    let first : mine.before ≡ x = same_Some mine.before x (sym mine.at ∙ there) in
+    let it = stands_there old before place x there stands in
+    let differs : mine.before.token ≢ Some token = λ is.
+    let wait = it.waits token (ap (λ (y : WaitingInform). y.token) (sym first) ∙ is) in
+    absurd (omega (arith, mine.later token wait.given)) in
+    let within = slice_get_within old.list.items place x there in record {
       by = by;
       seconds = seconds;
       salt_is = salt_is;
       pending = pending;
-      happens = asks_one old new before place now token x m by pending datagram.items (subst (λ (h : Held). WaitsForAnswer (with_manager old h) place now token pending new) same waits)
-          (subst (λ (h : Held). IsSameElse (with_manager old h) new) same else) there (subst (λ (y : WaitingInform). y.exchange.due ≤ now) one due) (may_there old place m x may there) goes stands;
+      token = token;
+      waits = mine.there differs;
+      among = (
+        mine.after,
+        subst (λ (ws : List WaitingInform). Contains ws mine.after) (sym mine.list) (place, omega (arith, within, length-set old.list.items place mine.after), get_or-set_same old.list.items place mine.after mine.after within),
+        mine.sent.number ∙ ap (λ (y : WaitingInform). y.number) first,
+        mine.sent.token_is,
+      );
+      happens = asks_one old new before place now token x m by pending datagram.items mine (subst (λ (h : Held). IsSameElse (with_manager old h) new) same else) there (subst (λ (y : WaitingInform). y.exchange.due ≤ now) one due)
+          (may_there old place m x may there) goes stands;
     }
 
 pub unsent_one : (old new : Informs) (held : Held) (before : List InformHappening) (place now first_id : ℕ) (salt : List ℕ) (gone x w : WaitingInform) (m : SentMessage) (by : Sealing) (why : Refusal) → held ≡ old.manager

@@ -3,10 +3,13 @@
 -- `InformsStand`: all that is known of them. `ReceiverHappens`, `InformSendHappens`: what happens by a call, and that
 -- it is lawful after what happened before. `InformsStay`: what never changes. `AreAsBefore`: nothing changes.
 use Rattle.std.specs.Prelude.{◌≡◌, ◌≢◌, ◌⊎◌, ◌<◌, ◌≤◌, ◌-◌, ◌^◌, ◌/◌, ℕ, List, ◌∷◌, All, AllPairs, Contains, false}
-use Rattle.std.specs.Prelude.{Option, Some, IsSome, Ok, Err, length, remove, slice_get, slice_set}
+use Rattle.std.specs.Prelude.{Option, Some, IsSome, Ok, Err, length, remove, slice_get, slice_set, None}
 use Rattle.std.specs.FinMap as map
 use Rattle.snmp_message.specs.declared.refusal.Refusal.{Refusal}
 use Rattle.snmp_incoming.specs.Outcome.{Given}
+use Rattle.snmp_message.specs.Scoped.{Contexts, ScopedFront}
+use Rattle.snmp_msg.specs.Pdu.{PduParts, PduText}
+use Rattle.snmp_requests.specs.Answering.{IsHeardOf}
 use Rattle.snmp_manager.specs.Takes.{Takes}
 use Rattle.snmp_manager.specs.declared.pending.Pending.{Pending}
 use Rattle.snmp_requests.specs.DeviceRequestRuns.{HearStep}
@@ -117,12 +120,25 @@ pub record IsSameElse (old new : Informs) : Type 0 where
   pub most : new.most ≡ old.most
   pub next : new.next ≡ old.next
 
+-- those with other tokens still wait
+abbrev pub KeepsOthers : Outstanding → Option ℕ → Outstanding → Type 0
+KeepsOthers old gone new = (token : ℕ) (r : OutstandingRequest) → gone ≢ Some token
+    → map.get old.requests (message_id_of token) ≡ Some r → r.token ≡ token
+    → map.get new.requests (message_id_of token) ≡ Some r
+
 -- the Inform at this place is gone
 pub record IsRemoved (old : Informs) (place : ℕ) (w : WaitingInform) (new : Informs) : Type 0 where
   pub at : IsAt old place w
   pub list : new.list.items ≡ remove old.list.items place
   pub requests : KeepsRequests old.requests new.requests
   pub same : IsSameElse old new
+
+-- the request with this token waits, and this is remembered of it
+pub record HasRequest (requests : Outstanding) (token : ℕ) (pending : Pending) : Type 0 where
+  pub request : OutstandingRequest
+  pub there : map.get requests.requests (message_id_of token) ≡ Some request
+  pub token_is : request.token ≡ token
+  pub pending_is : request.pending ≡ pending
 
 -- an answer is waited for to the message that is sent for the Inform at this place
 pub record WaitsForAnswer (old : Informs) (place now token : ℕ) (pending : Pending) (new : Informs) : Type 0 where
@@ -135,6 +151,8 @@ pub record WaitsForAnswer (old : Informs) (place now token : ℕ) (pending : Pen
   pub given : token < new.requests.next
   pub waits : (r : OutstandingRequest) → map.get new.requests.requests (message_id_of token) ≡ Some r
       → r.token ≡ token → r.pending ≡ pending
+  pub later : (t : ℕ) → t < old.requests.next → t < token
+  pub there : before.token ≢ Some token → HasRequest new.requests token pending
 
 -- what is heard of it is lawful, whatever datagram it is that was accepted
 pub record AnswersGiven (old : Informs) (before : List InformHappening) (given : Given) (number : ℕ)
@@ -150,15 +168,34 @@ pub record AnswersGiven (old : Informs) (before : List InformHappening) (given :
 abbrev pub IsGoingOn : NextStep → Type 0
 IsGoingOn next = (next ≡ step.Wait) ⊎ ((m : SentMessage) × (next ≡ step.Send m))
 
+-- it is no answer to the message that was sent last for an Inform, if one is waited for
+abbrev pub IsForAnother : Outstanding → WaitingInform → Given → Contexts → PduParts → Type 0
+IsForAnother requests w g c p = (token : ℕ) (r : OutstandingRequest) → w.token ≡ Some token
+    → map.get requests.requests (message_id_of token) ≡ Some r → r.token ≡ token → IsHeardOf r.pending g c p None
+
+-- the message is no answer to what is waited for: whatever its contexts and its PDU are
+abbrev pub IsForNone : Informs → Given → Type 0
+IsForNone f g = (c : Contexts) (p : PduParts) → ScopedFront g.text c → PduText c.pdu p
+    → All (λ (w : WaitingInform). IsForAnother f.requests w g c p) f.list.items
+
+-- what becomes of an answer
+abbrev pub HeardHappens : Informs → List InformHappening → Given → ReceiverTaken → Informs → Type 0
+HeardHappens old before given (taken.Refused why) new = ⊥
+HeardHappens old before given taken.NoAnswer new = ⊥
+HeardHappens old before given (taken.Heard n) new = AnswersGiven old before given n IsGoingOn new
+HeardHappens old before given (taken.Acknowledged n) new =
+    AnswersGiven old before given n (λ next. next ≡ step.Answered) new
+HeardHappens old before given (taken.Denied n counter) new =
+    AnswersGiven old before given n (λ next. next ≡ step.Refused counter) new
+
 -- what becomes of an accepted message
 abbrev pub AnswerHappens : Informs → List InformHappening → Given → ReceiverTaken → Informs → Type 0
-AnswerHappens old before given (taken.Refused why) new = ⊥
-AnswerHappens old before given taken.NoAnswer new = IsStill old before new
-AnswerHappens old before given (taken.Heard n) new = AnswersGiven old before given n IsGoingOn new
-AnswerHappens old before given (taken.Acknowledged n) new =
-    AnswersGiven old before given n (λ next. next ≡ step.Answered) new
+AnswerHappens old before given taken.NoAnswer new = IsForNone old given × IsStill old before new
+AnswerHappens old before given (taken.Refused why) new = HeardHappens old before given (taken.Refused why) new
+AnswerHappens old before given (taken.Heard n) new = HeardHappens old before given (taken.Heard n) new
+AnswerHappens old before given (taken.Acknowledged n) new = HeardHappens old before given (taken.Acknowledged n) new
 AnswerHappens old before given (taken.Denied n counter) new =
-    AnswersGiven old before given n (λ next. next ≡ step.Refused counter) new
+    HeardHappens old before given (taken.Denied n counter) new
 
 -- the message that the manager accepts is an answer for the Inform of this number
 pub record HearsOf (old : Informs) (before : List InformHappening) (now : ℕ) (datagram : List ℕ) (number : ℕ)
@@ -175,7 +212,8 @@ abbrev pub ReceiverHappens : Informs → List InformHappening → ℕ → List �
 ReceiverHappens old before now datagram (taken.Refused why) new =
     Takes old.manager (now / 1000) datagram (Some (Err why)) new.manager × IsStill old before new
 ReceiverHappens old before now datagram taken.NoAnswer new =
-    ((given : Given) × Takes old.manager (now / 1000) datagram (Some (Ok given)) new.manager) × IsStill old before new
+    ((given : Given) × Takes old.manager (now / 1000) datagram (Some (Ok given)) new.manager × IsForNone old given)
+    × IsStill old before new
 ReceiverHappens old before now datagram (taken.Heard n) new = HearsOf old before now datagram n IsGoingOn new
 ReceiverHappens old before now datagram (taken.Acknowledged n) new =
     HearsOf old before now datagram n (λ next. next ≡ step.Answered) new
@@ -209,6 +247,10 @@ pub record SendsOne (old : Informs) (before : List InformHappening) (now : ℕ) 
   pub seconds : by.seconds ≡ now / 1000
   pub salt_is : by.salt ≡ salt
   pub pending : Pending
+  -- its answer is waited for
+  pub token : ℕ
+  pub waits : HasRequest new.requests token pending
+  pub among : (w : WaitingInform) × Contains new.list.items w × (w.number ≡ number) × (w.token ≡ Some token)
   pub happens : InformHappens old before (asks number receiver now message old.manager by pending datagram) new
 
 abbrev pub InformSendHappens : Informs → List InformHappening → ℕ → List ℕ → ℕ → InformSent → Informs → Type 0

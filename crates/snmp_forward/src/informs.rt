@@ -11,10 +11,11 @@ ghost use Rattle.snmp_requests.specs.Outstanding.{IsFreeToken, message_id_of};
 ghost use Rattle.snmp_requests.specs.declared.outstanding.TheConstants.{REQUESTS_LIMIT};
 ghost use Rattle.snmp_forward.specs.Exchange.{MayBeTried};
 ghost use Rattle.snmp_forward.specs.InformHistory.{InformEnd, InformHappening, IsReason, begins};
-ghost use Rattle.snmp_forward.specs.InformStanding.{AnswerHappens, AreAsBefore, HasNoRoom, InformHappens};
-ghost use Rattle.snmp_forward.specs.InformStanding.{InformSendHappens, InformsStand, InformsStay, IsAnswered};
+ghost use Rattle.snmp_forward.specs.InformStanding.{AnswerHappens, AreAsBefore, HasNoRoom, HeardHappens};
+ghost use Rattle.snmp_forward.specs.InformStanding.{InformHappens, InformSendHappens, InformsStand, InformsStay};
+ghost use Rattle.snmp_forward.specs.InformStanding.{IsAnswered};
 ghost use Rattle.snmp_forward.specs.InformStanding.{IsAt, IsFull, IsGivenUp};
-ghost use Rattle.snmp_forward.specs.InformStanding.{IsRemoved, IsSameElse, KeepsRequests, ReceiverHappens};
+ghost use Rattle.snmp_forward.specs.InformStanding.{IsRemoved, IsSameElse, KeepsOthers, KeepsRequests, ReceiverHappens};
 ghost use Rattle.snmp_forward.specs.InformStanding.{WaitsForAnswer, setting_of};
 ghost use Rattle.snmp_forward.specs.WaitingInforms.{IsAddressed, IsDue, IsFirstDue};
 
@@ -100,7 +101,8 @@ pub struct Informs {
 
 /// The message with this token isn't waited for any more.
 fn forget(requests: &mut OutstandingRequests, token: Option<u64>)
-    ensures { KeepsRequests requests.old requests.new }
+    ensures keeps { KeepsRequests requests.old requests.new }
+    ensures others { KeepsOthers requests.old token requests.new }
 {
     if let Some(token) = token {
         requests.give_up(token);
@@ -231,7 +233,7 @@ impl Informs {
         ensures happens { (before : List InformHappening) (given : Given) (w : WaitingInform)
             → InformsStand before self.old → given.engine ≡ engine.now → IsAt self.old place w
             → IsAnswered before w given answered.heard
-            → AnswerHappens self.old before given result self.new }
+            → HeardHappens self.old before given result self.new }
         ensures same { IsSameElse self.old self.new }
     {
         let number = self.list[place].number;

@@ -1,10 +1,11 @@
-use Rattle.std.proofs.Common.{List, length, refl, subst, ap, sym, ◌<◌, ◌≡◌, ◌∙◌, Some, slice_get}
+use Rattle.std.proofs.Common.{All, List, length, refl, subst, ap, sym, ◌<◌, ◌≡◌, ◌∙◌, Some, slice_get}
 use Rattle.std.proofs.lemmas.Option.{slice_get_within}
 use Rattle.snmp_message.specs.Scoped.{contexts_of}
 use Rattle.snmp_msg.specs.Pdu.{pdu_of}
 use Rattle.snmp_incoming.specs.Answers.{given_of}
+use Rattle.snmp_forward.specs.WaitingInforms.{HasToken}
 use Rattle.snmp_forward.specs.declared.waiting_inform.WaitingInform.{WaitingInform}
-use Rattle.snmp_forward.proofs.InformAnswers.{answer_as, answered_of, keeps_told}
+use Rattle.snmp_forward.proofs.InformAnswers.{answer_as, answered_of, keeps_told, none_told, other_told}
 use Rattle.snmp_forward.proofs.InformKeeping.{nothing_happens, still}
 use Rattle.snmp_forward.proofs.informs.Informs.accept.Goals as goal
 
@@ -15,7 +16,7 @@ returns-in_default-clause-happens c = λ before stands.
     let front = c.scoped-scoped.ensures in
     let pdu = c.pdu-pdu.ensures.is_pdu (contexts_of c.scoped-scoped.result) front in
     let keeps = keeps_told old.requests g (contexts_of c.scoped-scoped.result) (pdu_of c.pdu-pdu.result) c.take_answer.result c.take_answer.new.self (c.take_answer.ensures (contexts_of c.scoped-scoped.result) (pdu_of c.pdu-pdu.result) front pdu) in
-    nothing_happens old _ before refl refl refl refl keeps stands
+    (none_told old g c.take_answer.new.self c.in_default.ensures, nothing_happens old _ before refl refl refl refl keeps stands)
 
 pub returns-in_default-place_of-clause-happens : goal.returns-in_default-place_of-clause-happens
 returns-in_default-place_of-clause-happens c = λ before stands.
@@ -23,8 +24,10 @@ returns-in_default-place_of-clause-happens c = λ before stands.
     let g = given_of c.args.taken.now in
     let front = c.scoped-scoped.ensures in
     let pdu = c.pdu-pdu.ensures.is_pdu (contexts_of c.scoped-scoped.result) front in
-    let keeps = keeps_told old.requests g (contexts_of c.scoped-scoped.result) (pdu_of c.pdu-pdu.result) c.take_answer.result c.take_answer.new.self (c.take_answer.ensures (contexts_of c.scoped-scoped.result) (pdu_of c.pdu-pdu.result) front pdu) in
-    nothing_happens old _ before refl refl refl refl keeps stands
+    let keeps = keeps_told old.requests g (contexts_of c.scoped-scoped.result) (pdu_of c.pdu-pdu.result) c.take_answer.result c.take_answer.new.self (c.take_answer.ensures (contexts_of c.scoped-scoped.result) (pdu_of c.pdu-pdu.result) front pdu) in (
+      other_told old g c.in-Some.answered c.take_answer.new.self c.in-Some.ensures (subst (All (λ (w : WaitingInform). ¬ HasToken c.in-Some.answered.token w)) c.deref.ensures.value c.in_default-place_of.ensures),
+      nothing_happens old _ before refl refl refl refl keeps stands,
+    )
 
 pub hear-requires : goal.hear-requires
 hear-requires c = record {

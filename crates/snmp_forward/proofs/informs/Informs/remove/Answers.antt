@@ -7,6 +7,6 @@ returns c =
     let old = c.args.self.now in record {
       at = slice_get_read old.list.items (length old.list.items) c.args.place c.remove-waiting.result refl c.requires.place c.remove-waiting.ensures.value;
       list = c.remove-waiting.ensures.items;
-      requests = c.forget.ensures;
+      requests = c.forget.ensures.keeps;
       same = record { engine = refl; manager = refl; limits = refl; most = refl; next = refl };
     }
