@@ -1,5 +1,5 @@
 -- What an accepted message is to the Informs that wait.
-use Rattle.std.specs.Prelude.{◌≡◌, ◌≢◌, ◌/◌, ℕ, List, ◌∷◌, All, Option, Some, None, Result, Ok, Err}
+use Rattle.std.specs.Prelude.{◌≡◌, ◌≢◌, ◌/◌, ℕ, Bool, List, ◌∷◌, All, Option, Some, None, Result, Ok, Err}
 use Rattle.std.specs.FinMap as map
 use Rattle.std.proofs.Common.{refl, sym, ap, subst, ◌∙◌}
 use Rattle.std.proofs.lemmas.Option.{same_Some, slice_get_within}
@@ -21,7 +21,7 @@ use Rattle.snmp_requests.specs.declared.device_request.Heard.TheVariants.{Respon
 use Rattle.snmp_requests.specs.declared.device_request.NextStep.{NextStep}
 use Rattle.snmp_requests.specs.declared.outstanding.OutstandingRequest.{OutstandingRequest}
 use Rattle.snmp_forward.specs.InformHistory.{Accepted, InformHappening, InformSetting, IsAccepted, IsInformLawful, answers, asked_with}
-use Rattle.snmp_forward.specs.InformStanding.{AnswerHappens, AnswersGiven, HeardHappens, HearsOf, InformHappens, InformsStand, IsAnswered, IsAt, IsForNone, IsSameElse, KeepsRequests, ReceiverHappens, setting_of}
+use Rattle.snmp_forward.specs.InformStanding.{AnswerHappens, AnswersGiven, HeardHappens, HearsOf, InformHappens, InformsStand, IsAnswered, IsAt, IsForNone, IsSameElse, KeepsRequests, ReceiverHappens, holds, setting_of}
 use Rattle.snmp_forward.specs.WaitingInforms.{HasToken}
 use Rattle.snmp_forward.specs.declared.informs.Informs.{Informs}
 use Rattle.snmp_forward.specs.declared.informs.ReceiverTaken.{ReceiverTaken}
@@ -64,19 +64,20 @@ answered_of f before place w g told new c p stands at has is front pdu =
 abbrev pub with_requests : Informs → Outstanding → Informs
 with_requests f q = record { alloc = f.alloc; engine = f.engine; manager = f.manager; requests = q; list = f.list; next = f.next; most = f.most; limits = f.limits }
 
-given_as : (old new : Informs) (q : Outstanding) (before : List InformHappening) (g : Given) (n : ℕ) (Next : NextStep → Type 0) → AnswersGiven (with_requests old q) before g n Next new → AnswersGiven old before g n Next new
-given_as old new q before g n Next a = record {
+given_as : (old new : Informs) (q : Outstanding) (before : List InformHappening) (g : Given) (b c : Bool) (n : ℕ) (Next : NextStep → Type 0) → b ≡ c → AnswersGiven (with_requests old q) before g b n Next new → AnswersGiven old before g c n Next new
+given_as old new q before g b c n Next same a = record {
   heard = a.heard;
+  clock = a.clock ∙ same;
   next = a.next;
   happens = λ what whats accepted. let h = a.happens what whats accepted in record { lawful = h.lawful; stands = h.stands };
 }
 
-pub answer_as : (old new : Informs) (q : Outstanding) (before : List InformHappening) (g : Given) (r : ReceiverTaken) → HeardHappens (with_requests old q) before g r new → AnswerHappens old before g r new
-answer_as old new q before g (taken.Refused why) h = h
-answer_as old new q before g taken.NoAnswer h = absurd h
-answer_as old new q before g (taken.Heard n) h = given_as old new q before g n _ h
-answer_as old new q before g (taken.Acknowledged n) h = given_as old new q before g n _ h
-answer_as old new q before g (taken.Denied n counter) h = given_as old new q before g n _ h
+pub answer_as : (old new : Informs) (q : Outstanding) (before : List InformHappening) (g : Given) (b : Bool) (r : ReceiverTaken) → b ≡ holds old.manager g.engine → HeardHappens (with_requests old q) before g b r new → AnswerHappens old before g r new
+answer_as old new q before g b (taken.Refused why) same h = h
+answer_as old new q before g b taken.NoAnswer same h = absurd h
+answer_as old new q before g b (taken.Heard n) same h = given_as old new q before g b (holds old.manager g.engine) n _ same h
+answer_as old new q before g b (taken.Acknowledged n) same h = given_as old new q before g b (holds old.manager g.engine) n _ same h
+answer_as old new q before g b (taken.Denied n counter) same h = given_as old new q before g b (holds old.manager g.engine) n _ same h
 
 -- ---- no answer
 
@@ -102,12 +103,13 @@ module _ (old new : Informs) (held : Held) (before : List InformHappening) (now 
   is_accepted : IsAccepted held.users accepted_now
   is_accepted = subst (λ (users : List User). Outcome (as_manager new.manager.clocks) users (now / 1000) datagram (Ok g)) (sym takes.0) takes_on.2
 
-  hears_of : (n : ℕ) (Next : NextStep → Type 0) → AnswersGiven (with_manager old held) before g n Next new → HearsOf old before now datagram n Next new
+  hears_of : (n : ℕ) (Next : NextStep → Type 0) → AnswersGiven (with_manager old held) before g (holds held g.engine) n Next new → HearsOf old before now datagram n Next new
   hears_of n Next a =
       let h = a.happens accepted_now refl is_accepted in record {
         given = g;
         takes = takes_on;
         heard = a.heard;
+        clock = a.clock ∙ ap (λ (h : Held). holds h g.engine) (sym same);
         next = a.next;
         happens = record {
           lawful = subst (λ (users : List User). IsInformLawful (setting_with old users) before (answers n accepted_now a.heard)) takes.0 h.lawful;

@@ -320,9 +320,10 @@ module _ (old new : Informs) (before : List InformHappening) (place : ℕ) (w y 
     goes_on = hears.hears;
   }
 
-  pub answers_on : {Next : NextStep → Type 0} → Next next → new.list.items ≡ slice_set old.list.items place y → is_end next ≡ false → AnswersGiven old before given w.number Next new
+  pub answers_on : {Next : NextStep → Type 0} → Next next → new.list.items ≡ slice_set old.list.items place y → is_end next ≡ false → AnswersGiven old before given holds w.number Next new
   answers_on is list on = record {
     heard = heard_as heard holds next;
+    clock = refl;
     next = is;
     happens = λ what whats accepted. record {
       lawful = answer_lawful what whats accepted;
@@ -331,9 +332,10 @@ module _ (old new : Informs) (before : List InformHappening) (place : ℕ) (w y 
     };
   }
 
-  pub answers_off : {Next : NextStep → Type 0} → Next next → new.list.items ≡ remove (slice_set old.list.items place y) place → is_end next ≡ true → AnswersGiven old before given w.number Next new
+  pub answers_off : {Next : NextStep → Type 0} → Next next → new.list.items ≡ remove (slice_set old.list.items place y) place → is_end next ≡ true → AnswersGiven old before given holds w.number Next new
   answers_off is list ended = record {
     heard = heard_as heard holds next;
+    clock = refl;
     next = is;
     happens = λ what whats accepted. record {
       lawful = answer_lawful what whats accepted;
@@ -351,10 +353,10 @@ module _ (old new : Informs) (before : List InformHappening) (place : ℕ) (i x 
   number_is : w.number ≡ i.number
   number_is = ap (λ (z : WaitingInform). z.number) (same_Some w i (sym at ∙ at_i))
 
-  pub hears_on : (Next : NextStep → Type 0) → Next next → new.list.items ≡ slice_set old.list.items place y → is_end next ≡ false → AnswersGiven old before given i.number Next new
-  hears_on Next has list on = subst (λ (n : ℕ). AnswersGiven old before given n Next new) number_is
+  pub hears_on : (Next : NextStep → Type 0) → Next next → new.list.items ≡ slice_set old.list.items place y → is_end next ≡ false → AnswersGiven old before given holds i.number Next new
+  hears_on Next has list on = subst (λ (n : ℕ). AnswersGiven old before given holds n Next new) number_is
       (answers_on old new before place w y given heard holds engine next hears_it of at is_answer keeps else stands has list on)
 
-  pub hears_off : (Next : NextStep → Type 0) → Next next → new.list.items ≡ remove (slice_set old.list.items place y) place → is_end next ≡ true → AnswersGiven old before given i.number Next new
-  hears_off Next has list ended = subst (λ (n : ℕ). AnswersGiven old before given n Next new) number_is
+  pub hears_off : (Next : NextStep → Type 0) → Next next → new.list.items ≡ remove (slice_set old.list.items place y) place → is_end next ≡ true → AnswersGiven old before given holds i.number Next new
+  hears_off Next has list ended = subst (λ (n : ℕ). AnswersGiven old before given holds n Next new) number_is
       (answers_off old new before place w y given heard holds engine next hears_it of at is_answer keeps else stands has list ended)

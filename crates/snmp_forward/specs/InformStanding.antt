@@ -3,14 +3,16 @@
 -- `InformsStand`: all that is known of them. `ReceiverHappens`, `InformSendHappens`: what happens by a call, and that
 -- it is lawful after what happened before. `InformsStay`: what never changes. `AreAsBefore`: nothing changes.
 use Rattle.std.specs.Prelude.{◌≡◌, ◌≢◌, ◌⊎◌, ◌<◌, ◌≤◌, ◌-◌, ◌^◌, ◌/◌, ℕ, List, ◌∷◌, All, AllPairs, Contains, false}
-use Rattle.std.specs.Prelude.{Option, Some, IsSome, Ok, Err, length, remove, slice_get, slice_set, None}
+use Rattle.std.specs.Prelude.{Bool, is_some, Option, Some, IsSome, Ok, Err, length, remove, slice_get, slice_set, None}
 use Rattle.std.specs.FinMap as map
 use Rattle.snmp_message.specs.declared.refusal.Refusal.{Refusal}
 use Rattle.snmp_incoming.specs.Outcome.{Given}
 use Rattle.snmp_message.specs.Scoped.{Contexts, ScopedFront}
 use Rattle.snmp_msg.specs.Pdu.{PduParts, PduText}
 use Rattle.snmp_requests.specs.Answering.{IsHeardOf}
+use Rattle.engine_clock.specs.Marks.{pair_at}
 use Rattle.snmp_manager.specs.Takes.{Takes}
+use Rattle.snmp_manager.specs.Views.{Held}
 use Rattle.snmp_manager.specs.declared.pending.Pending.{Pending}
 use Rattle.snmp_requests.specs.DeviceRequestRuns.{HearStep}
 use Rattle.snmp_requests.specs.Outstanding.{HasNoToken, Outstanding, message_id_of}
@@ -155,9 +157,10 @@ pub record WaitsForAnswer (old : Informs) (place now token : ℕ) (pending : Pen
   pub there : before.token ≢ Some token → HasRequest new.requests token pending
 
 -- what is heard of it is lawful, whatever datagram it is that was accepted
-pub record AnswersGiven (old : Informs) (before : List InformHappening) (given : Given) (number : ℕ)
-    (Next : NextStep → Type 0) (new : Informs) : Type 0 where
+pub record AnswersGiven (old : Informs) (before : List InformHappening) (given : Given) (holds_clock : Bool)
+    (number : ℕ) (Next : NextStep → Type 0) (new : Informs) : Type 0 where
   pub heard : HearStep
+  pub clock : heard.holds_clock ≡ holds_clock
   pub next : Next heard.turn
   pub happens : (what : Accepted) → what.given ≡ given → IsAccepted old.manager.users what
       → InformHappens old before (answers number what heard) new
@@ -179,23 +182,30 @@ IsForNone f g = (c : Contexts) (p : PduParts) → ScopedFront g.text c → PduTe
     → All (λ (w : WaitingInform). IsForAnother f.requests w g c p) f.list.items
 
 -- what becomes of an answer
-abbrev pub HeardHappens : Informs → List InformHappening → Given → ReceiverTaken → Informs → Type 0
-HeardHappens old before given (taken.Refused why) new = ⊥
-HeardHappens old before given taken.NoAnswer new = ⊥
-HeardHappens old before given (taken.Heard n) new = AnswersGiven old before given n IsGoingOn new
-HeardHappens old before given (taken.Acknowledged n) new =
-    AnswersGiven old before given n (λ next. next ≡ step.Answered) new
-HeardHappens old before given (taken.Denied n counter) new =
-    AnswersGiven old before given n (λ next. next ≡ step.Refused counter) new
+abbrev pub HeardHappens : Informs → List InformHappening → Given → Bool → ReceiverTaken → Informs → Type 0
+HeardHappens old before given holds_clock (taken.Refused why) new = ⊥
+HeardHappens old before given holds_clock taken.NoAnswer new = ⊥
+HeardHappens old before given holds_clock (taken.Heard n) new =
+    AnswersGiven old before given holds_clock n IsGoingOn new
+HeardHappens old before given holds_clock (taken.Acknowledged n) new =
+    AnswersGiven old before given holds_clock n (λ next. next ≡ step.Answered) new
+HeardHappens old before given holds_clock (taken.Denied n counter) new =
+    AnswersGiven old before given holds_clock n (λ next. next ≡ step.Refused counter) new
+
+-- whether boots and time of this engine are held
+abbrev pub holds : Held → List ℕ → Bool
+holds held engine = is_some (pair_at held.clocks engine)
 
 -- what becomes of an accepted message
 abbrev pub AnswerHappens : Informs → List InformHappening → Given → ReceiverTaken → Informs → Type 0
 AnswerHappens old before given taken.NoAnswer new = IsForNone old given × IsStill old before new
-AnswerHappens old before given (taken.Refused why) new = HeardHappens old before given (taken.Refused why) new
-AnswerHappens old before given (taken.Heard n) new = HeardHappens old before given (taken.Heard n) new
-AnswerHappens old before given (taken.Acknowledged n) new = HeardHappens old before given (taken.Acknowledged n) new
+AnswerHappens old before given (taken.Refused why) new = ⊥
+AnswerHappens old before given (taken.Heard n) new =
+    HeardHappens old before given (holds old.manager given.engine) (taken.Heard n) new
+AnswerHappens old before given (taken.Acknowledged n) new =
+    HeardHappens old before given (holds old.manager given.engine) (taken.Acknowledged n) new
 AnswerHappens old before given (taken.Denied n counter) new =
-    HeardHappens old before given (taken.Denied n counter) new
+    HeardHappens old before given (holds old.manager given.engine) (taken.Denied n counter) new
 
 -- the message that the manager accepts is an answer for the Inform of this number
 pub record HearsOf (old : Informs) (before : List InformHappening) (now : ℕ) (datagram : List ℕ) (number : ℕ)
@@ -203,6 +213,7 @@ pub record HearsOf (old : Informs) (before : List InformHappening) (now : ℕ) (
   pub given : Given
   pub takes : Takes old.manager (now / 1000) datagram (Some (Ok given)) new.manager
   pub heard : HearStep
+  pub clock : heard.holds_clock ≡ holds new.manager given.engine
   pub next : Next heard.turn
   pub happens : InformHappens old before (answers number
       (record { held = new.manager; seconds = now / 1000; datagram = datagram; given = given }) heard) new

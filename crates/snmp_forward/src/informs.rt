@@ -233,7 +233,7 @@ impl Informs {
         ensures happens { (before : List InformHappening) (given : Given) (w : WaitingInform)
             → InformsStand before self.old → given.engine ≡ engine.now → IsAt self.old place w
             → IsAnswered before w given answered.heard
-            → HeardHappens self.old before given result self.new }
+            → HeardHappens self.old before given holds_clock result self.new }
         ensures same { IsSameElse self.old self.new }
     {
         let number = self.list[place].number;

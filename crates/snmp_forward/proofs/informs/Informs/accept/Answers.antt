@@ -2,7 +2,9 @@ use Rattle.std.proofs.Common.{All, List, length, refl, subst, ap, sym, ◌<◌, 
 use Rattle.std.proofs.lemmas.Option.{slice_get_within}
 use Rattle.snmp_message.specs.Scoped.{contexts_of}
 use Rattle.snmp_msg.specs.Pdu.{pdu_of}
+use Rattle.std.specs.Prelude.{is_some}
 use Rattle.snmp_incoming.specs.Answers.{given_of}
+use Rattle.snmp_forward.specs.InformStanding.{holds}
 use Rattle.snmp_forward.specs.WaitingInforms.{HasToken}
 use Rattle.snmp_forward.specs.declared.waiting_inform.WaitingInform.{WaitingInform}
 use Rattle.snmp_forward.proofs.InformAnswers.{answer_as, answered_of, keeps_told, none_told, other_told}
@@ -47,4 +49,5 @@ returns-clause-happens c = λ before stands.
     let keeps = keeps_told old.requests g (contexts_of c.scoped-scoped.result) (pdu_of c.pdu-pdu.result) c.take_answer.result c.take_answer.new.self (c.take_answer.ensures (contexts_of c.scoped-scoped.result) (pdu_of c.pdu-pdu.result) front pdu) in
     let middle = still old _ before refl refl refl refl keeps stands in
     let answer = answered_of old before c.in-Some-place_of.place first.it g c.in-Some.answered c.take_answer.new.self (contexts_of c.scoped-scoped.result) (pdu_of c.pdu-pdu.result) stands at first.has c.in-Some.ensures front pdu in
-    answer_as old c.hear.new.self c.take_answer.new.self before g c.hear.result (c.hear.ensures.happens before g first.it middle refl at answer)
+    let clock : c.is_some-holds_clock.result ≡ holds old.manager g.engine = c.is_some-holds_clock.ensures ∙ ap is_some c.pair.ensures in
+    answer_as old c.hear.new.self c.take_answer.new.self before g c.is_some-holds_clock.result c.hear.result clock (c.hear.ensures.happens before g first.it middle refl at answer)
