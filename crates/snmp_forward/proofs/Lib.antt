@@ -4,3 +4,13 @@ pub mod Choices
 pub mod Written
 pub mod Dealing
 pub mod Running
+pub mod Exchanges
+pub mod SentInforms
+pub mod Dues
+pub mod Tokens
+pub mod InformKeeping
+pub mod InformSteps
+pub mod InformAnswers
+pub mod InformRunning
+pub mod Mediating
+pub mod Mediation

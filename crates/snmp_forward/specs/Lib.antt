@@ -7,3 +7,10 @@ pub mod Choosing
 pub mod History
 pub mod Standing
 pub mod Runs
+pub mod Exchange
+pub mod ExchangeRuns
+pub mod Informs
+pub mod WaitingInforms
+pub mod InformHistory
+pub mod InformStanding
+pub mod InformRuns

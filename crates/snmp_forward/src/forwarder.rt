@@ -71,7 +71,7 @@ pub(crate) enum Chosen {
 }
 
 /// Returns true if the device has this community.
-fn has_community(device: &Device, community: &[u8]) -> bool
+pub(crate) fn has_community(device: &Device, community: &[u8]) -> bool
     ensures { IsTrue result ↔ (device.now.community.items ≡ community.now) }
 {
     device.community.as_slice() == community

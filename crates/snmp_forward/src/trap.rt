@@ -26,19 +26,26 @@ pub enum Written {
     Refused(Refusal),
 }
 
-/// Returns what an SNMPv2-Trap has besides its bindings: the device's request-id, and this context of this engine.
-fn front_of<'a>(engine: &'a EngineId, context: &'a [u8], pdu: &Pdu<'_>) -> Front<'a>
+/// Returns what a notification has besides its bindings, as a PDU of this type: the device's request-id, and this
+/// context of this engine.
+pub(crate) fn front_of<'a>(
+    engine: &'a EngineId,
+    context: &'a [u8],
+    pdu_type: PduType,
+    pdu: &Pdu<'_>,
+) -> Front<'a>
     ensures engine { result.context_engine.now ≡ engine.now }
     ensures context { result.context_name.now ≡ context.now }
-    ensures tag { result.tag ≡ pdu_tag PduType.SNMPv2Trap }
+    ensures tag { result.tag ≡ pdu_tag pdu_type }
+    ensures id { result.id ≡ pdu.now.id }
     ensures pdu { (vs : List Variable) → pdu_after result vs
-        ≡ pdu_with (pdu_tag PduType.SNMPv2Trap) pdu.now.id (pos 0) (pos 0) vs }
+        ≡ pdu_with (pdu_tag pdu_type) pdu.now.id (pos 0) (pos 0) vs }
 {
     let id = pdu.id;
     Front {
         context_engine: engine.as_slice(),
         context_name: context,
-        tag: PduType::SNMPv2Trap.tag(),
+        tag: pdu_type.tag(),
         id,
         second: 0,
         third: 0,
@@ -65,7 +72,7 @@ pub(crate) fn write_trap(
 {
     one_pdu();
     let bindings = bindings_of(alloc, pdu)?;
-    let front = front_of(engine, context, pdu);
+    let front = front_of(engine, context, PduType::SNMPv2Trap, pdu);
     let (now, id) = (by.seconds, by.id);
     match agent.notify_of(now, id, &to.user, to.level, &front, &bindings, by.salt) {
         Ok(datagram) => Ok(Written::Sends(datagram)),

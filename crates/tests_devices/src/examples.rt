@@ -2,6 +2,7 @@
 mod of_gate_handles;
 mod of_snmp_community;
 mod of_snmp_forward;
+mod of_snmp_forward_informs;
 mod of_snmp_gate;
 mod of_snmp_gate_access;
 mod of_snmp_gate_asks;

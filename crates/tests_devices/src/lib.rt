@@ -9,4 +9,6 @@ mod gate;
 #[cfg(test)]
 mod gate_config;
 #[cfg(test)]
+mod informs;
+#[cfg(test)]
 mod walk;

@@ -1,0 +1,148 @@
+-- What an accepted message is to the Informs that wait.
+use Rattle.std.specs.Prelude.{◌≡◌, ◌≢◌, ◌/◌, ℕ, Bool, List, ◌∷◌, All, Option, Some, None, Result, Ok, Err}
+use Rattle.std.specs.FinMap as map
+use Rattle.std.proofs.Common.{refl, sym, ap, subst, ◌∙◌}
+use Rattle.std.proofs.lemmas.Option.{same_Some, slice_get_within}
+use Rattle.snmp_message.specs.Numbers.{in_table}
+use Rattle.snmp_message.specs.Scoped.{Contexts, ScopedFront}
+use Rattle.snmp_message.specs.declared.refusal.Refusal.{Refusal}
+use Rattle.snmp_message.specs.declared.refusal.Refusal.TheVariants.{NotMessage, BadVersion, NotSecurity, NotScoped, NotPdu, UnknownEngine, UnknownUser, UnsupportedLevel, WrongDigest, NotInWindow, DecryptionError, BadScoped, BadPdu, OutOfMemory, ClockExhausted, TooLarge, UnknownModel, InvalidFlags}
+use Rattle.snmp_msg.specs.Pdu.{PduParts, PduText}
+use Rattle.snmp_incoming.specs.Outcome.{Given, Outcome, as_manager}
+use Rattle.usm_core.specs.Table.{refusal_answer}
+use Rattle.usm_users.specs.User.{User}
+use Rattle.snmp_manager.specs.Takes.{Takes}
+use Rattle.snmp_manager.specs.Views.{Held}
+use Rattle.snmp_requests.specs.Answering.{IsHeardOf, TellsAnswered, left_after}
+use Rattle.snmp_requests.specs.Outstanding.{Outstanding, message_id_of, without}
+use Rattle.snmp_requests.specs.declared.answered.AnsweredRequest.{AnsweredRequest}
+use Rattle.snmp_requests.specs.declared.device_request.Heard.{Heard}
+use Rattle.snmp_requests.specs.declared.device_request.Heard.TheVariants.{Response, Report}
+use Rattle.snmp_requests.specs.declared.device_request.NextStep.{NextStep}
+use Rattle.snmp_requests.specs.declared.outstanding.OutstandingRequest.{OutstandingRequest}
+use Rattle.snmp_forward.specs.InformHistory.{Accepted, InformHappening, InformSetting, IsAccepted, IsInformLawful, answers, asked_with}
+use Rattle.snmp_forward.specs.InformStanding.{AnswerHappens, AnswersGiven, HeardHappens, HearsOf, InformHappens, InformsStand, IsAnswered, IsAt, IsForNone, IsSameElse, KeepsRequests, ReceiverHappens, holds, setting_of}
+use Rattle.snmp_forward.specs.WaitingInforms.{HasToken}
+use Rattle.snmp_forward.specs.declared.informs.Informs.{Informs}
+use Rattle.snmp_forward.specs.declared.informs.ReceiverTaken.{ReceiverTaken}
+use Rattle.snmp_forward.specs.declared.informs.ReceiverTaken.TheVariants as taken
+use Rattle.snmp_forward.specs.declared.waiting_inform.WaitingInform.{WaitingInform}
+use Rattle.snmp_forward.proofs.InformKeeping.{keeps_all, keeps_without}
+use Rattle.snmp_forward.proofs.InformSteps.{stands_there, with_manager}
+
+-- ---- the requests that still wait
+
+keeps_heard : (old : Outstanding) (heard : Heard) (token : ℕ) (new : Outstanding) → new ≡ left_after heard token old → KeepsRequests old new
+keeps_heard old Response token new is = subst (KeepsRequests old) (sym is) (keeps_without old (message_id_of token))
+keeps_heard old (Report counter authentic) token new is = subst (KeepsRequests old) (sym is) (keeps_all old)
+
+pub keeps_told : (old : Outstanding) (g : Given) (c : Contexts) (p : PduParts) (told : Option AnsweredRequest) (new : Outstanding) → TellsAnswered old g c p told new → KeepsRequests old new
+keeps_told old g c p (Some told) new is = keeps_heard old told.heard told.token new is.1
+keeps_told old g c p None new is = subst (KeepsRequests old) (sym is.1) (keeps_all old)
+
+-- ---- the Inform to which it is an answer
+
+-- whatever its contexts and its PDU are
+abbrev pub IsToldOf : Outstanding → Given → AnsweredRequest → Outstanding → Type 0
+IsToldOf old g told new = (c : Contexts) (p : PduParts) → ScopedFront g.text c → PduText c.pdu p → TellsAnswered old g c p (Some told) new
+
+pub answered_of : (f : Informs) (before : List InformHappening) (place : ℕ) (w : WaitingInform) (g : Given) (told : AnsweredRequest) (new : Outstanding) (c : Contexts) (p : PduParts) → InformsStand before f → IsAt f place w → w.token ≡ Some told.token
+    → IsToldOf f.requests g told new → ScopedFront g.text c → PduText c.pdu p → IsAnswered before w g told.heard
+answered_of f before place w g told new c p stands at has is front pdu =
+    let first = (is c p front pdu).0 in
+    let own = ((stands_there f before place w at stands).waits told.token has).own first.request first.there first.token_is in record {
+      asked = asked_with own.message first.request.pending;
+      is_asked = own.is_asked;
+      is_sent = own.is_sent;
+      is_heard = λ d q d_front q_pdu.
+          let again = (is d q d_front q_pdu).0 in
+          subst (λ (r : OutstandingRequest). IsHeardOf r.pending g d q (Some told.heard)) (same_Some again.request first.request (sym again.there ∙ first.there)) again.heard_is;
+    }
+
+-- ---- with other requests
+
+abbrev pub with_requests : Informs → Outstanding → Informs
+with_requests f q = record { alloc = f.alloc; engine = f.engine; manager = f.manager; requests = q; list = f.list; next = f.next; most = f.most; limits = f.limits }
+
+given_as : (old new : Informs) (q : Outstanding) (before : List InformHappening) (g : Given) (b c : Bool) (n : ℕ) (Next : NextStep → Type 0) → b ≡ c → AnswersGiven (with_requests old q) before g b n Next new → AnswersGiven old before g c n Next new
+given_as old new q before g b c n Next same a = record {
+  heard = a.heard;
+  clock = a.clock ∙ same;
+  next = a.next;
+  happens = λ what whats accepted. let h = a.happens what whats accepted in record { lawful = h.lawful; stands = h.stands };
+}
+
+pub answer_as : (old new : Informs) (q : Outstanding) (before : List InformHappening) (g : Given) (b : Bool) (r : ReceiverTaken) → b ≡ holds old.manager g.engine → HeardHappens (with_requests old q) before g b r new → AnswerHappens old before g r new
+answer_as old new q before g b (taken.Refused why) same h = h
+answer_as old new q before g b taken.NoAnswer same h = absurd h
+answer_as old new q before g b (taken.Heard n) same h = given_as old new q before g b (holds old.manager g.engine) n _ same h
+answer_as old new q before g b (taken.Acknowledged n) same h = given_as old new q before g b (holds old.manager g.engine) n _ same h
+answer_as old new q before g b (taken.Denied n counter) same h = given_as old new q before g b (holds old.manager g.engine) n _ same h
+
+-- ---- no answer
+
+pub none_told : (f : Informs) (g : Given) (new : Outstanding) → ((c : Contexts) (p : PduParts) → ScopedFront g.text c → PduText c.pdu p → TellsAnswered f.requests g c p None new) → IsForNone f g
+none_told f g new is c p front pdu k d short token r has there of = (is c p front pdu).0 (message_id_of token) r there
+
+pub other_told : (f : Informs) (g : Given) (told : AnsweredRequest) (new : Outstanding) → IsToldOf f.requests g told new → All (λ (w : WaitingInform). ¬ HasToken told.token w) f.list.items → IsForNone f g
+other_told f g told new is none c p front pdu k d short token r has there of =
+    (is c p front pdu).0.alone (message_id_of token) r there (λ same. none k d short (has ∙ ap Some (sym of ∙ same)))
+
+-- ---- with what the manager has learned
+
+abbrev setting_with : Informs → List User → InformSetting
+setting_with f users = record { limits = f.limits; users = users; own = f.engine }
+
+module _ (old new : Informs) (held : Held) (before : List InformHappening) (now : ℕ) (datagram : List ℕ) (g : Given) (takes : Takes old.manager (now / 1000) datagram (Some (Ok g)) held) (same : new.manager ≡ held) where
+  takes_on : Takes old.manager (now / 1000) datagram (Some (Ok g)) new.manager
+  takes_on = subst (λ (h : Held). Takes old.manager (now / 1000) datagram (Some (Ok g)) h) (sym same) takes
+
+  abbrev accepted_now : Accepted
+  accepted_now = record { held = new.manager; seconds = now / 1000; datagram = datagram; given = g }
+
+  is_accepted : IsAccepted held.users accepted_now
+  is_accepted = subst (λ (users : List User). Outcome (as_manager new.manager.clocks) users (now / 1000) datagram (Ok g)) (sym takes.0) takes_on.2
+
+  hears_of : (n : ℕ) (Next : NextStep → Type 0) → AnswersGiven (with_manager old held) before g (holds held g.engine) n Next new → HearsOf old before now datagram n Next new
+  hears_of n Next a =
+      let h = a.happens accepted_now refl is_accepted in record {
+        given = g;
+        takes = takes_on;
+        heard = a.heard;
+        clock = a.clock ∙ ap (λ (h : Held). holds h g.engine) (sym same);
+        next = a.next;
+        happens = record {
+          lawful = subst (λ (users : List User). IsInformLawful (setting_with old users) before (answers n accepted_now a.heard)) takes.0 h.lawful;
+          stands = h.stands;
+        };
+      }
+
+  pub receives : (r : ReceiverTaken) → AnswerHappens (with_manager old held) before g r new → ReceiverHappens old before now datagram r new
+  receives (taken.Refused why) h = absurd h
+  receives taken.NoAnswer h = ((g, takes_on, h.0), record { list = h.1.list; stands = h.1.stands })
+  receives (taken.Heard n) h = hears_of n _ h
+  receives (taken.Acknowledged n) h = hears_of n _ h
+  receives (taken.Denied n counter) h = hears_of n _ h
+
+-- ---- refusals
+
+-- a refusal that isn't out of memory is an answer
+pub refusal_told : {X : Type 0} (r : Refusal) → in_table r ≢ None → refusal_answer {X = X} r ≡ Some (Err r)
+refusal_told NotMessage never = refl
+refusal_told BadVersion never = refl
+refusal_told NotSecurity never = refl
+refusal_told NotScoped never = refl
+refusal_told NotPdu never = refl
+refusal_told UnknownEngine never = refl
+refusal_told UnknownUser never = refl
+refusal_told UnsupportedLevel never = refl
+refusal_told WrongDigest never = refl
+refusal_told NotInWindow never = refl
+refusal_told DecryptionError never = refl
+refusal_told BadScoped never = refl
+refusal_told BadPdu never = refl
+refusal_told OutOfMemory never = absurd (never refl)
+refusal_told ClockExhausted never = refl
+refusal_told TooLarge never = refl
+refusal_told UnknownModel never = refl
+refusal_told InvalidFlags never = refl
