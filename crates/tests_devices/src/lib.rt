@@ -9,6 +9,4 @@ mod gate;
 #[cfg(test)]
 mod gate_config;
 #[cfg(test)]
-mod informs;
-#[cfg(test)]
 mod walk;
