@@ -1,4 +1,4 @@
-//! Informs in which a growth is refused, and those that have no answer.
+//! An Inform of which each growth of memory is refused in turn.
 
 use engine_clock::{Clocks, EngineId};
 use snmp_agent::Agent;
@@ -18,19 +18,16 @@ const TABLES: &[u8] = b"\
 level = 'authNoPriv'\nnotify = 'all'\n\
 [[family]]\nview = 'all'\nsubtree = '1.3.6'\ninclude = true\n";
 
-/// The same engine, which doesn't know Ann.
-const NO_USERS: &[u8] = b"[[context]]\nname = 'pdu'\n";
-
 /// coldStart of a device with the community "public".
 static TRAP: &[u8] = b"\x30\x40\x02\x01\x01\x04\x06public\
 \xa7\x33\x02\x01\x07\x02\x01\x00\x02\x01\x00\x30\x28\
 \x30\x0d\x06\x08\x2b\x06\x01\x02\x01\x01\x03\x00\x43\x01\x05\
 \x30\x17\x06\x0a\x2b\x06\x01\x06\x03\x01\x01\x04\x01\x00\x06\x09\x2b\x06\x01\x06\x03\x01\x01\x05\x01";
 
-fn config_of(alloc: Global, text: &[u8]) -> Result<Config, AllocError> {
-    match Config::read(alloc, text) {
+fn config_of(alloc: Global) -> Result<Config, AllocError> {
+    match Config::read(alloc, TABLES) {
         Ok(config) => Ok(config),
-        Err(_) => Config::read(alloc, text).map_err(|_| AllocError),
+        Err(_) => Config::read(alloc, TABLES).map_err(|_| AllocError),
     }
 }
 
@@ -58,7 +55,7 @@ fn receivers(alloc: Global) -> Result<Receivers, AllocError> {
 }
 
 fn inform(alloc: Global) -> Result<Option<Inform>, AllocError> {
-    let tables = config_of(alloc, TABLES)?.access;
+    let tables = config_of(alloc)?.access;
     receivers(alloc)?.inform(alloc, &tables, &devices(alloc)?, 0, 0, TRAP)
 }
 
@@ -72,7 +69,7 @@ fn inform_after_refusal(alloc: Global) -> Result<Inform, AllocError> {
 
 /// One Inform waits, and may be sent 3 times, 5 seconds apart.
 fn informs(alloc: Global) -> Result<Informs, AllocError> {
-    let config = config_of(alloc, TABLES)?;
+    let config = config_of(alloc)?;
     let engine = EngineId::of(b"\x80\x00\x1f\x88\x04gate").ok_or(AllocError)?;
     let manager = Manager::new(alloc, config.users, Clocks::new(alloc));
     let mut informs = Informs::new(alloc, engine, manager, 1, InformLimits::default());
@@ -85,9 +82,9 @@ fn informs(alloc: Global) -> Result<Informs, AllocError> {
     Ok(informs)
 }
 
-/// An engine with the users of this configuration.
-fn receiver(alloc: Global, text: &[u8]) -> Result<Agent, AllocError> {
-    let config = config_of(alloc, text)?;
+/// The receiver's engine, which has her too.
+fn receiver(alloc: Global) -> Result<Agent, AllocError> {
+    let config = config_of(alloc)?;
     let engine = EngineId::of(b"\x80\x00\x1f\x88\x04receiver").ok_or(AllocError)?;
     Ok(Agent::new(alloc, engine, 1, 0, config.users, config.access))
 }
@@ -133,9 +130,9 @@ fn informs_after_refusal(alloc: Global) -> Result<(Informs, Agent), AllocError> 
         Ok(informs) => informs,
         Err(_) => informs(alloc)?,
     };
-    let receiver = match receiver(alloc, TABLES) {
+    let receiver = match receiver(alloc) {
         Ok(receiver) => receiver,
-        Err(_) => receiver(alloc, TABLES)?,
+        Err(_) => receiver(alloc)?,
     };
     Ok((informs, receiver))
 }
@@ -149,35 +146,6 @@ fn a_refused_growth_leaves_the_informs(rt: HostRuntime) -> Result<(), Fail> {
     }
     let taken = exchanged(&mut informs, &mut receiver, 1_000)?;
     assert_eq!(rt; taken, ReceiverTaken::Acknowledged(0));
-    assert_eq!(rt; informs.len(), 0);
-    Ok(())
-}
-
-/// Anybody can answer that there is no such user: usmStatsUnknownUserNames, the third counter.
-#[test]
-fn a_report_without_authentication_ends_no_inform(rt: HostRuntime) -> Result<(), Fail> {
-    let (mut informs, mut receiver) = informs_after_refusal(rt.alloc())?;
-    let mut other = self::receiver(rt.alloc(), NO_USERS)?;
-    for _ in 0..2 {
-        exchanged(&mut informs, &mut receiver, 1_000)?;
-    }
-    for now in [1_000, 6_000, 11_000] {
-        let heard = exchanged(&mut informs, &mut other, now)?;
-        assert_eq!(rt; heard, ReceiverTaken::Heard(0));
-        assert_eq!(rt; (informs.len(), informs.due()), (1, Some(now + 5_000)));
-        assert!(rt; matches!(next(&mut informs, now + 4_999)?, InformSent::Nothing));
-    }
-    let last = next(&mut informs, 16_000)?;
-    assert!(rt;
-        matches!(
-            last,
-            InformSent::GivenUp {
-                number: 0,
-                hint: Some(3),
-                ..
-            }
-        )
-    );
     assert_eq!(rt; informs.len(), 0);
     Ok(())
 }
