@@ -1,6 +1,6 @@
 //! The content of an OBJECT IDENTIFIER (X.690, section 8.19).
 
-ghost use Rattle.std.specs.Prelude.{◌≡◌, ℕ, ◌+◌, ◌<◌, ◌≤◌, ◌↔◌, ◌++◌, ◌∷◌, List, Some, length, IfSome, OnOk, OnErr};
+ghost use Rattle.std.specs.Prelude.{◌≡◌, ℕ, ◌+◌, ◌<◌, ◌≤◌, ◌↔◌, ◌++◌, ◌∷◌, [], List, Some, length, IfSome, OnOk, OnErr};
 ghost use Rattle.std.specs.Prelude.{option_map, option_and_then, is_some, nat_lt, vec_len, vec_capacity, IsTrue};
 ghost use Rattle.std.specs.List.{list_all};
 ghost use Rattle.snmp_ber.specs.Oid.{IsObjectId, IsIdentifier, subidentifiers, subidentifiers_in, at_most};
@@ -15,20 +15,21 @@ use std::alloc::AllocError;
 /// The tag of an OBJECT IDENTIFIER.
 const OBJECT_IDENTIFIER: u8 = 0x06;
 
-/// The subidentifiers that the octets are, at most 127.
-fn read_subidentifiers(content: &[u8]) -> Option<ArrayVec<u32, 127>>
-    ensures { option_map (λ v. v.items) result
+/// Reads the subidentifiers that the octets are, at most 127. The numbers are written where they are kept, since a
+/// vector of that size is moved slowly.
+fn read_subidentifiers(numbers: &mut ArrayVec<u32, 128>, content: &[u8]) -> Option<()>
+    requires { numbers.old.items ≡ [] }
+    ensures { option_map (λ _. numbers.new.items) result
         ≡ option_and_then (at_most 127) (subidentifiers_in 0 content.now) }
 {
-    let mut numbers = ArrayVec::new();
     let mut high: u32 = 0;
     for octet in content {
         if high > 0x1ff_ffff {
             return None;
         }
         if *octet < 128 {
-            if numbers.is_full() {
-                return None;
+            if numbers.len() == 127 {
+                return None; // there would be more than 128 arcs
             }
             numbers.push(128 * high + u32::from(*octet));
             high = 0;
@@ -42,18 +43,19 @@ fn read_subidentifiers(content: &[u8]) -> Option<ArrayVec<u32, 127>>
     if high > 0 {
         return None;
     }
-    Some(numbers)
+    Some(())
 }
 
-/// The arcs, of which the first subidentifier tells two.
+/// Reads the arcs, of which the first subidentifier tells two. They are written where they are kept.
 #[tactic(auto, unfolding(crate::specs::Oid::identifier_in))]
-fn read_arcs(content: &[u8]) -> Option<ArrayVec<u32, 128>>
-    ensures value { option_map (λ v. v.items) result ≡ identifier_in content.now }
-    ensures some { IfSome result (λ v. 1 ≤ length v.items) }
-    ensures most { IfSome result (λ v. length v.items ≤ 128) }
+pub(crate) fn read_arcs(arcs: &mut ArrayVec<u32, 128>, content: &[u8]) -> Option<()>
+    requires { arcs.old.items ≡ [] }
+    ensures value { option_map (λ _. arcs.new.items) result ≡ identifier_in content.now }
+    ensures some { IfSome result (λ _. 1 ≤ length arcs.new.items) }
+    ensures most { IfSome result (λ _. length arcs.new.items ≤ 128) }
 {
-    let numbers = read_subidentifiers(content)?;
-    let [first, others @ ..] = numbers.as_slice() else {
+    read_subidentifiers(arcs, content)?;
+    let [first, ..] = arcs.as_mut_slice() else {
         return None;
     };
     let (top, second) = if *first < 40 {
@@ -63,13 +65,9 @@ fn read_arcs(content: &[u8]) -> Option<ArrayVec<u32, 128>>
     } else {
         (2, *first - 80)
     };
-    let mut arcs = ArrayVec::new();
-    arcs.push(top);
-    arcs.push(second);
-    let Ok(()) = arcs.try_extend_from_slice(others) else {
-        unreachable!();
-    };
-    Some(arcs)
+    *first = second;
+    arcs.insert(0, top);
+    Some(())
 }
 
 /// The identifier whose content this is. It is `None` where the content isn't one to 127 subidentifiers, each at most
@@ -78,7 +76,8 @@ pub fn read_oid(content: &[u8]) -> Option<Oid>
     ensures value { (arcs : List ℕ) → (result ≡ Some arcs) ↔ IsIdentifier arcs content.now }
     ensures exact { result ≡ identifier_in content.now }
 {
-    let arcs = read_arcs(content)?;
+    let mut arcs = ArrayVec::new();
+    read_arcs(&mut arcs, content)?;
     Some(Oid::from_arcs(arcs))
 }
 
@@ -200,20 +199,18 @@ fn push_groups(content: &mut ArrayVec<u8, 635>, number: u32)
     };
 }
 
-/// The content of the OBJECT IDENTIFIER of an identifier.
+/// Writes the content of the OBJECT IDENTIFIER of an identifier, where it is kept.
 #[tactic(auto, unfolding(crate::specs::Oid::identifier))]
-fn oid_content(oid: &Oid) -> ArrayVec<u8, 635>
-    requires { IsObjectId oid.now }
-    ensures spelled { result.items ≡ identifier oid.now }
-    ensures most { length result.items ≤ 635 }
+fn push_content(content: &mut ArrayVec<u8, 635>, oid: &Oid)
+    requires object_id { IsObjectId oid.now }
+    requires empty { content.old.items ≡ [] }
+    ensures { content.new.items ≡ identifier oid.now }
 {
     let (first, others) = split_first(oid);
-    let mut content = ArrayVec::new();
-    push_groups(&mut content, first);
+    push_groups(content, first);
     for arc in others {
-        push_groups(&mut content, *arc);
+        push_groups(content, *arc);
     }
-    content
 }
 
 /// How many octets the content of the OBJECT IDENTIFIER of an identifier has.
@@ -252,5 +249,7 @@ pub fn put_oid(out: &mut Vec<u8>, oid: &Oid) -> Result<(), AllocError>
         + length (element 6 (identifier oid.now))) }
     ensures size { OnOk result (vec_len out.new ≤ vec_len out.old + 641) }
 {
-    put_tlv(out, OBJECT_IDENTIFIER, &oid_content(oid))
+    let mut content = ArrayVec::new();
+    push_content(&mut content, oid);
+    put_tlv(out, OBJECT_IDENTIFIER, &content)
 }

@@ -3,8 +3,9 @@
 ghost use Rattle.std.specs.Prelude.{◌≡◌, ◌≤◌, ℕ, List, length, Some, true, is_some, MatchOption};
 ghost use Rattle.snmp_ber.specs.Oid.{IsIdentifier, IsObjectId, AreArcs, identifier_in, identifier};
 
-use crate::identifier::{is_oid, read_oid};
+use crate::identifier::{is_oid, read_arcs};
 use crate::oid::Oid;
+use arrayvec::ArrayVec;
 use std::marker::Model;
 
 /// An object identifier, in the octets elsewhere that are the content of its OBJECT IDENTIFIER (X.690,
@@ -65,9 +66,10 @@ impl<'a> ObjectName<'a> {
     pub fn oid(&self) -> Oid
         ensures { result ≡ self.now }
     {
-        match read_oid(self.content) {
-            Some(oid) => oid,
-            None => unreachable!(),
-        }
+        let mut arcs = ArrayVec::new();
+        let Some(()) = read_arcs(&mut arcs, self.content) else {
+            unreachable!();
+        };
+        Oid::from_arcs(arcs)
     }
 }
