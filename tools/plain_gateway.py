@@ -237,7 +237,15 @@ class Ends(Exception):
 
     def __init__(self, what, *numbers):
         super().__init__(what, numbers)
-        self.what, self.numbers = what, numbers
+        self.what, self.numbers, self.fault = what, numbers, ""
+
+
+class Unfit(Ends):
+    """Its device's answer doesn't fit what was asked: why, with the place and the misfit where it is one of a binding."""
+
+    def __init__(self, why, *where):
+        super().__init__("own", GEN_ERR, 0)
+        self.fault = f" {why}({', '.join(map(str, where))})" if where else f" {why}"
 
 
 def front_of(columns, singles, most):
@@ -359,30 +367,35 @@ class Talk:
             raise Ends("own", TOO_BIG, 0)
 
     def take_values(self, bindings):
-        if len(bindings) != len(self.asked):
-            raise Ends("own", GEN_ERR, 0)
-        for (column, name), (given, value) in zip(self.asked, bindings):
-            if given != name or value[0] == END[0] or not is_value(value):
-                raise Ends("own", GEN_ERR, 0)
+        for place, ((column, name), (given, value)) in enumerate(zip(self.asked, bindings)):
+            if given != name:
+                raise Unfit("AtBinding", place, "OtherName")
+            if value[0] == END[0] or not is_value(value):
+                raise Unfit("AtBinding", place, "NotValue")
             column.got.append((given, value))
+        if len(bindings) != len(self.asked):
+            raise Unfit("TooFew" if len(bindings) < len(self.asked) else "TooMany")
 
     def take_walks(self, bindings):
         again = [place for place, (column, _) in enumerate(self.asked) if self.kind == GET_BULK and column.number >= self.singles]
         turns = list(range(len(self.asked))) + again * (self.times - 1)
-        if len(bindings) > len(turns) or self.kind == GET_NEXT and len(bindings) < len(turns):
-            # (a wrong binding before it is genErr too)
-            raise Ends("own", GEN_ERR, 0)
         names, has_ended = [name for _, name in self.asked], set()
-        for place, (name, value) in zip(turns, bindings):
+        for at, (place, (name, value)) in enumerate(zip(turns, bindings)):
             column = self.asked[place][0]
             if value[0] == END[0]:
                 has_ended.add(place)
-            elif place in has_ended or name <= names[place] or value[0] in (NO_SUCH_OBJECT[0], NO_SUCH_INSTANCE[0]) or not is_value(value):
-                raise Ends("own", GEN_ERR, 0)
+            elif place in has_ended:
+                raise Unfit("AtBinding", at, "AfterEnd")
+            elif name <= names[place]:
+                raise Unfit("AtBinding", at, "NotAfter")
+            elif value[0] in (NO_SUCH_OBJECT[0], NO_SUCH_INSTANCE[0]) or not is_value(value):
+                raise Unfit("AtBinding", at, "NotValue")
             else:
                 names[place] = column.at = name
                 if self.view.sees(name):
                     column.got.append((name, value))
+        if len(bindings) > len(turns) or self.kind == GET_NEXT and len(bindings) < len(turns):
+            raise Unfit("TooMany" if len(bindings) > len(turns) else "TooFew")
         for place in has_ended:
             self.asked[place][0].is_ended = True
 
@@ -425,6 +438,7 @@ class Gateway:
         self.requests, self.begun, self.sets = [], 0, {}
         self.ids = [[] for _ in devices]
         self.counters = dict.fromkeys(COUNTERS, 0)
+        self.said = ""  # error-status and error-index of the last Response, or that it was a Report
         self.log = []
 
     # ---- what comes from clients
@@ -526,11 +540,11 @@ class Gateway:
     def take_device(self, now, number, datagram):
         answer = answer_in(datagram)
         if answer is None:
-            return "Unreadable"
+            return "unreadable"
         community, request_id, status, index, bindings = answer
         request = next((it for it in self.requests if it.ends is None and it.device == number and it.asked == request_id), None)
         if request is None or community != self.community_of(request):
-            return "NotWaitedFor"
+            return "not waited for"
         self.ids[number].remove(request_id)
         request.asked, request.times = None, 0
         self.log.append(("answers", request, status, bindings))
@@ -539,7 +553,7 @@ class Gateway:
             self.go_on(now, request, status, index, bindings)
         except Ends as ends:
             request.ends = ends
-        return f"Answers({request.number})"
+        return f"answers {request.number}{request.ends.fault if request.ends else ''}"
 
     def community_of(self, request):
         device = self.devices[request.device]
@@ -638,7 +652,7 @@ class Gateway:
         datagram = self.reply(now, request, message, salt)
         if datagram is None:
             return f"unanswered {request.number}"
-        return f"to client {request.number} '{message.client} {datagram.hex()}"
+        return f"to client {request.number} '{message.client} {self.said} {datagram.hex()}"
 
     def reply(self, now, request, message, salt):
         """The datagram that answers a message, or None."""
@@ -657,6 +671,7 @@ class Gateway:
         datagram = self.report(now, message, what, salt)
         if datagram:
             self.log.append(("reports", request, message))
+            self.said = "report"
         return datagram
 
     def fitting(self, now, request, message, status, index, bindings, salt, has_fronts=False):
@@ -675,6 +690,7 @@ class Gateway:
         if len(datagram) > self.limit_of(message):
             return None
         self.log.append(("responds", request, message, status, index, shown))
+        self.said = f"{status} {index}"
         return datagram
 
     def due(self):

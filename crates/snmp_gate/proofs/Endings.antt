@@ -21,12 +21,13 @@ use Rattle.snmp_gate.specs.declared.work.Work.TheVariants as work
 use Rattle.snmp_gate.specs.declared.work.Work.TheVariants.{Open}
 use Rattle.snmp_gate.specs.Question.{Question}
 use Rattle.snmp_gate.specs.declared.onward.AnswerTaken.{AnswerTaken}
-use Rattle.snmp_gate.specs.declared.onward.AnswerTaken.TheVariants.{Ends, Front, GoesOn}
+use Rattle.snmp_gate.specs.declared.onward.AnswerTaken.TheVariants.{Ends, Front, GoesOn, Unfit}
 
 pub fails_end : (q : Question) (told : Said) (taken : AnswerTaken) → (q.tag ≡ pdu_tag SetRequest → ⊥) → FailsOrGoesOn taken → IsEndFor q told taken
 fails_end q told (Ends says) read fails = record { no_error = λ same. absurd (fails same); set = λ is_set. absurd (read is_set) }
 fails_end q told Front read fails = tt
 fails_end q told GoesOn read fails = tt
+fails_end q told (Unfit why) read fails = read
 
 -- a Set that ends without an error was done
 set_ends : (tables : Tables) (q : Question) (told : Said) (answer : Pdu) (says : ResponseStatus) → SaysAll (request_of_task q task.Set) answer told → TaskStands tables q told task.Set → IsToldStatus answer.second says.status
@@ -40,6 +41,7 @@ pub set_taken : (tables : Tables) (q : Question) (told : Said) (answer : Pdu) (t
 set_taken tables q told answer (Ends says) all stands is = set_ends tables q told answer says all stands is.status
 set_taken tables q told answer Front all stands is = absurd is
 set_taken tables q told answer GoesOn all stands is = absurd is
+set_taken tables q told answer (Unfit why) all stands is = absurd is
 
 pub one_open : (w : Work) (a b : OpenRequest) → w ≡ Open a → w ≡ Open b → a ≡ b
 one_open w a b is also = let same : Open a ≡ Open b = sym is ∙ also in cc

@@ -18,10 +18,11 @@ use Rattle.snmp_agent.specs.Agent.{AgentState}
 use Rattle.snmp_gate.specs.Groups.{Group, IsAnswered, IsAt, IsLeft, IsWorked, group_of, groups_of, with_messages, with_work}
 use Rattle.snmp_gate.specs.Messages.{question_in}
 use Rattle.snmp_incoming.specs.Outcome.{Given}
-use Rattle.snmp_gate.specs.Replies.{Answering, IsAnswerTo}
+use Rattle.snmp_gate.specs.Replies.{Answering, ClientAnswer, IsAnswerTo, answer_with}
 use Rattle.snmp_gate.specs.Sending.{IsGivenUp, IsOpenAt, MayAskAt, RepliesTo, Requests, SetsAsked}
 use Rattle.snmp_gate.specs.declared.devices.Devices.{Devices}
 use Rattle.snmp_gate.specs.declared.gate.Gate.{Gate}
+use Rattle.snmp_gate.specs.declared.reply.Reply.{Reply}
 use Rattle.snmp_gate.specs.declared.reply.Reply.TheVariants as reply
 use Rattle.snmp_gate.specs.Taking.{IsCommunityOfTask, IsCommunityOfWork, WaitsFor, WorkAfter}
 use Rattle.snmp_gate.specs.declared.task.Task.{Task}
@@ -519,7 +520,7 @@ message_gone tables devices e before next gs new place m answer takes stands = r
   gone = none_waits_out tables devices e before next gs new place m answer.group answer.others takes answer.at answer.messages_are answer.left stands;
 }
 
-sent_takes : (n : ℕ) (m : WaitingMessage) (by : Answering) (w : List ℕ) (before : List Happening) → TakesOne (sent n m by w) before n
+sent_takes : (n : ℕ) (m : WaitingMessage) (by : Answering) (w : ClientAnswer) (before : List Happening) → TakesOne (sent n m by w) before n
 sent_takes n m by w before = record {
   number = refl;
   wait = chosen n (drop 1 (waiting_in n before)) (waiting_in n before);
@@ -552,10 +553,22 @@ moved tables other_tables devices others before next after gs new t d n g stands
 
 -- ---- what goes out of what becomes of a message
 
-answer_law : (agent : AgentState) (devices : List Device) (before : List Happening) (n seconds : ℕ) (salt : List ℕ) (q : Question) (g : Given) (w : Work) (datagram : Vec ℕ) → RepliesTo agent seconds salt q (told_in n before) g w (reply.Sends datagram)
-    → WorkStands agent.tables devices before n q w → IsAnswerTo (record { agent = agent; now = seconds; salt = salt }) agent.tables q (told_in n before) g datagram.items
-answer_law agent devices before n seconds salt q g (Ends e) datagram replies stands = replies stands
-answer_law agent devices before n seconds salt q g (Open o) datagram replies stands = absurd replies
+-- what becomes of a message is that a client is sent this
+abbrev pub IsReplyWith : Reply → ClientAnswer → Type 0
+IsReplyWith (reply.Responds says datagram) answer = answer ≡ answer_with (Some says) datagram
+IsReplyWith (reply.Reports datagram) answer = answer ≡ answer_with None datagram
+IsReplyWith _ answer = ⊥
+
+answer_law : (agent : AgentState) (devices : List Device) (before : List Happening) (n seconds : ℕ) (salt : List ℕ) (q : Question) (g : Given) (w : Work) (r : Reply) (answer : ClientAnswer) → IsReplyWith r answer
+    → RepliesTo agent seconds salt q (told_in n before) g w r → WorkStands agent.tables devices before n q w → IsAnswerTo (record { agent = agent; now = seconds; salt = salt }) agent.tables q (told_in n before) g answer
+answer_law agent devices before n seconds salt q g (Ends e) (reply.Responds says datagram) answer is replies stands =
+    subst (λ (a : ClientAnswer). IsAnswerTo (record { agent = agent; now = seconds; salt = salt }) agent.tables q (told_in n before) g a) (sym is) (replies stands)
+answer_law agent devices before n seconds salt q g (Ends e) (reply.Reports datagram) answer is replies stands =
+    subst (λ (a : ClientAnswer). IsAnswerTo (record { agent = agent; now = seconds; salt = salt }) agent.tables q (told_in n before) g a) (sym is) (replies stands)
+answer_law agent devices before n seconds salt q g (Ends e) reply.Nothing answer is replies stands = absurd is
+answer_law agent devices before n seconds salt q g (Ends e) reply.SilentDrop answer is replies stands = absurd is
+answer_law agent devices before n seconds salt q g (Ends e) (reply.Refused why) answer is replies stands = absurd is
+answer_law agent devices before n seconds salt q g (Open o) r answer is replies stands = absurd replies
 
 -- what is left of a gateway is this, where a message was answered
 pub record IsLeftAfter (old : Gate) (place : ℕ) (m : WaitingMessage) (new : Gate) : Type 0 where
@@ -597,27 +610,27 @@ first_at old new before place r m within is left stands =
       turn = (left.answer.others, group.wait ∙ messages);
     }
 
-pub sent_all : (old new : Gate) (before : List Happening) (place seconds : ℕ) (salt : List ℕ) (r : WaitingRequest WaitingMessage Work) (m : WaitingMessage) (datagram : Vec ℕ) → place < length old.requests.list.items
-    → r ≡ slice_index_or old.requests.list.items place r → IsLeftAfter old place m new
-    → ((q : Question) (said : Said) → question_in r.first ≡ Some q → RepliesTo old.agent seconds salt q said r.first.kept r.work (reply.Sends datagram))
-    → RequestsStand before old → IsEnd old before (sent r.number m (record { agent = old.agent; now = seconds; salt = salt }) datagram.items) new
-sent_all old new before place seconds salt r m datagram within is left replies stands =
+pub sent_all : (old new : Gate) (before : List Happening) (place seconds : ℕ) (salt : List ℕ) (r : WaitingRequest WaitingMessage Work) (m : WaitingMessage) (replied : Reply) (answer : ClientAnswer) → place < length old.requests.list.items
+    → r ≡ slice_index_or old.requests.list.items place r → IsLeftAfter old place m new → IsReplyWith replied answer
+    → ((q : Question) (said : Said) → question_in r.first ≡ Some q → RepliesTo old.agent seconds salt q said r.first.kept r.work replied)
+    → RequestsStand before old → IsEnd old before (sent r.number m (record { agent = old.agent; now = seconds; salt = salt }) answer) new
+sent_all old new before place seconds salt r m replied answer within is left with_this replies stands =
     let by : Answering = record { agent = old.agent; now = seconds; salt = salt } in
     let at = first_at old new before place r m within is left stands in
     let group = at.group in
     let first = at.first in
     let asks = All-head (λ (x : WaitingMessage). question_in x ≡ Some group.question) r.first r.others.items group.asks in
-    let law = answer_law old.agent old.devices.list.items before r.number seconds salt group.question r.first.kept r.work datagram (replies group.question (told_in r.number before) asks) group.work in
+    let law = answer_law old.agent old.devices.list.items before r.number seconds salt group.question r.first.kept r.work replied answer with_this (replies group.question (told_in r.number before) asks) group.work in
     let accepted_first = All-head (IsAccepted before r.number) r.first r.others.items group.are_accepted in record {
       mediated = (
         subst (λ (x : WaitingMessage). IsAccepted before r.number x) first accepted_first,
         (λ q asked.
             let one = same_some group.question q (sym asks ∙ ap question_in first ∙ asked) in
-            subst (λ (x : WaitingMessage). IsAnswerTo by old.agent.tables q (told_in r.number before) x.kept datagram.items) first
-            (subst (λ (x : Question). IsAnswerTo by old.agent.tables x (told_in r.number before) r.first.kept datagram.items) one law)),
+            subst (λ (x : WaitingMessage). IsAnswerTo by old.agent.tables q (told_in r.number before) x.kept answer) first
+            (subst (λ (x : Question). IsAnswerTo by old.agent.tables x (told_in r.number before) r.first.kept answer) one law)),
       );
       in_turn = at.turn;
-      requests = left_stands old new (sent r.number m by datagram.items) before place m left (subst (TakesOne (sent r.number m by datagram.items) before) at.number_is (sent_takes r.number m by datagram.items before)) stands;
+      requests = left_stands old new (sent r.number m by answer) before place m left (subst (TakesOne (sent r.number m by answer) before) at.number_is (sent_takes r.number m by answer before)) stands;
     }
 
 pub unanswered_all : (old new : Gate) (before : List Happening) (place : ℕ) (r : WaitingRequest WaitingMessage Work) (m : WaitingMessage) → place < length old.requests.list.items

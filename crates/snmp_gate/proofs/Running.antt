@@ -10,7 +10,7 @@ use Rattle.snmp_gate.specs.Bounds.{AreBounded, AsksBounded, IsBounded}
 use Rattle.snmp_gate.specs.Limits.{AlwaysKeepsTo, IsTriedFew, KeepsTo, WaitInTime}
 use Rattle.snmp_gate.specs.History.{Happening, IsMediated, MayAskFor, accepted, answered, asked, given_up, sent, told_in, unanswered, waiting_in}
 use Rattle.snmp_gate.specs.Lawful.{AreLawful, IsLawful}
-use Rattle.snmp_gate.specs.Replies.{IsAnswerTo, SameAgent}
+use Rattle.snmp_gate.specs.Replies.{IsAnswerTo, SameAgent, answer_with}
 use Rattle.snmp_gate.specs.Runs.{Event, IsHistoryOf, IsRun, accepted_for, asked_in, client_comes, device_comes, ended_for, finds_no_memory, goes_out, moment_of, sent_in, to_clients, to_devices}
 use Rattle.snmp_gate.specs.Waiting.{ClientHappens, DeviceHappens, Fresh, GateStands, Happens, SendHappens, Stays}
 use Rattle.snmp_gate.specs.declared.devices.Device.{Device}
@@ -104,9 +104,9 @@ client_stands first middle last now from w client.SetOfBefore events known stays
 
 device_stands : (first middle last : Gate) (now number : ℕ) (w : List ℕ) (taken : DeviceTaken) (events : List Event) (known : RunStands first events middle) → Stays middle last → DeviceHappens middle now known.history number w taken last
     → RunStands first (device_comes now number w taken ∷ events) last
-device_stands first middle last now number w (device.Answers n) events known stays happens = record {
+device_stands first middle last now number w (device.Answers n why) events known stays happens = record {
   history = answered n number happens.0 w ∷ known.history;
-  is = happened first middle last now (answered n number happens.0 w) known.history events (device_comes now number w (device.Answers n)) known.stays known.is happens.1 known.is.devices known.is.clients;
+  is = happened first middle last now (answered n number happens.0 w) known.history events (device_comes now number w (device.Answers n why)) known.stays known.is happens.1 known.is.devices known.is.clients;
   stands = happens.1.stands;
   stays = stays_on first middle last known.stays stays;
   keeps = λ b. (keeps_more first last now (answered n number happens.0 w ∷ known.history) (stays_on first middle last known.stays stays) happens.1.stands b, tried_few first middle known.history (answered n number happens.0 w) known.stays happens.1.tried, known.keeps b);
@@ -115,11 +115,11 @@ device_stands first middle last now number w device.Unreadable events known stay
 device_stands first middle last now number w device.NotWaitedFor events known stays happens = record { history = known.history; is = record { lawful = known.is.lawful; devices = known.is.devices; clients = known.is.clients }; stands = happens; stays = stays_on first middle last known.stays stays; keeps = known.keeps }
 
 send_stands : (first middle last : Gate) (now : ℕ) (f : Fresh) (what : Sent) (events : List Event) (known : RunStands first events middle) → Stays middle last → SendHappens middle now known.history f what last → RunStands first (goes_out now f what ∷ events) last
-send_stands first middle last now f (out.ToClient n to w) events known stays happens =
-    let e = sent n happens.0 (record { agent = middle.agent; now = now / 1000; salt = f.salt }) w.items in record {
+send_stands first middle last now f (out.ToClient n to says w) events known stays happens =
+    let e = sent n happens.0 (record { agent = middle.agent; now = now / 1000; salt = f.salt }) (answer_with says w) in record {
       history = e ∷ known.history;
-      is = happened first middle last now e known.history events (goes_out now f (out.ToClient n to w)) known.stays known.is happens.2 known.is.devices
-          (λ i. ((happens.1 i).items, w.items) ∷ known.is.clients i);
+      is = happened first middle last now e known.history events (goes_out now f (out.ToClient n to says w)) known.stays known.is happens.2 known.is.devices
+          (λ i. ((happens.1 i).items, answer_with says w) ∷ known.is.clients i);
       stands = happens.2.stands;
       stays = stays_on first middle last known.stays stays;
       keeps = λ b. (keeps_more first last now (e ∷ known.history) (stays_on first middle last known.stays stays) happens.2.stands b, tried_few first middle known.history e known.stays happens.2.tried, known.keeps b);

@@ -47,7 +47,8 @@ use Rattle.snmp_gate.specs.declared.work.Work.TheVariants.{Open, Ends}
 use Rattle.snmp_gate.proofs.AsksKept.{asks_same}
 use Rattle.snmp_gate.proofs.Endings.{one_open}
 use Rattle.snmp_gate.proofs.GroupSteps.{group_at, groups_set}
-use Rattle.snmp_gate.proofs.Histories.{IsLeftAfter, group_in, moved, sent_all, unanswered_all}
+use Rattle.snmp_gate.specs.Replies.{answer_with}
+use Rattle.snmp_gate.proofs.Histories.{IsLeftAfter, IsReplyWith, group_in, moved, sent_all, unanswered_all}
 use Rattle.snmp_gate.proofs.Others.{contains_cons, was_before, was_other}
 use Rattle.snmp_gate.proofs.Questions.{all_answered, all_worked, at_place}
 use Rattle.snmp_gate.proofs.Same.{all_stand_same, work_set_same}
@@ -144,17 +145,18 @@ unanswered_happens old new since now before place f r m said why later within is
       },
     )
 
-pub reply_happens : (old new : Gate) (since now : ℕ) (before : List Happening) (place : ℕ) (f : Fresh) (r : WaitingRequest WaitingMessage Work) (m : WaitingMessage) (said : Option ResponseStatus) (client : Vec ℕ) (replied : Reply) (output : Sent) → since ≤ now
-    → place < length old.requests.list.items → r ≡ slice_index_or old.requests.list.items place r → IsLeftAfter old place m new → client ≡ m.client
+-- a client is sent this
+answer_happens : (old new : Gate) (since now : ℕ) (before : List Happening) (place : ℕ) (f : Fresh) (r : WaitingRequest WaitingMessage Work) (m : WaitingMessage) (said : Option ResponseStatus) (client : Vec ℕ) (replied : Reply) (says : Option ResponseStatus) (datagram : Vec ℕ) → since ≤ now
+    → place < length old.requests.list.items → r ≡ slice_index_or old.requests.list.items place r → IsLeftAfter old place m new → client ≡ m.client → IsReplyWith replied (answer_with says datagram)
     → ((q : Question) (told : Said) → question_in r.first ≡ Some q → RepliesTo old.agent (now / 1000) f.salt q told r.first.kept r.work replied)
-    → IsSentBy r.number client replied output → new.asks ≡ old.asks → IsToldOf m said old.sets.sets.items new.sets.sets.items → GateStands since before old → SendHappens old now before f output new
-reply_happens old new since now before place f r m said client (reply.Sends datagram) output later within is left from replies sends asks told stands =
+    → new.asks ≡ old.asks → IsToldOf m said old.sets.sets.items new.sets.sets.items → GateStands since before old → SendHappens old now before f (out.ToClient r.number client says datagram) new
+answer_happens old new since now before place f r m said client replied says datagram later within is left from with_this replies asks told stands =
     let by = answering_at old now f.salt in
-    let e = sent r.number m by datagram.items in
-    let ends = sent_all old new before place (now / 1000) f.salt r m datagram within is left replies stands.requests in
-    let rest = leaves old new since now before e m said place later (λ k. refl) (λ n at w x same. let wrong : sent r.number m by datagram.items ≡ accepted n at w x = same in cc)
-    (λ n. was_before e before n (λ d id what w same. let wrong : sent r.number m by datagram.items ≡ asked n d id what w = same in cc)) left.answer asks told stands in
-    let happens : SendHappens old now before f (out.ToClient r.number client datagram) new = (
+    let answer = answer_with says datagram in
+    let e = sent r.number m by answer in
+    let ends = sent_all old new before place (now / 1000) f.salt r m replied answer within is left with_this replies stands.requests in
+    let rest = leaves old new since now before e m said place later (λ k. refl) (λ n at w x same. let wrong : sent r.number m by answer ≡ accepted n at w x = same in cc)
+    (λ n. was_before e before n (λ d id what w same. let wrong : sent r.number m by answer ≡ asked n d id what w = same in cc)) left.answer asks told stands in (
       m,
       from,
       record {
@@ -162,8 +164,18 @@ reply_happens old new since now before place f r m said client (reply.Sends data
         tried = tt;
         stands = record { requests = ends.requests; asks = rest.asks; sets = rest.sets };
       },
-    ) in
-    subst (λ (o : Sent). SendHappens old now before f o new) (sym sends) happens
+    )
+
+pub reply_happens : (old new : Gate) (since now : ℕ) (before : List Happening) (place : ℕ) (f : Fresh) (r : WaitingRequest WaitingMessage Work) (m : WaitingMessage) (said : Option ResponseStatus) (client : Vec ℕ) (replied : Reply) (output : Sent) → since ≤ now
+    → place < length old.requests.list.items → r ≡ slice_index_or old.requests.list.items place r → IsLeftAfter old place m new → client ≡ m.client
+    → ((q : Question) (told : Said) → question_in r.first ≡ Some q → RepliesTo old.agent (now / 1000) f.salt q told r.first.kept r.work replied)
+    → IsSentBy r.number client replied output → new.asks ≡ old.asks → IsToldOf m said old.sets.sets.items new.sets.sets.items → GateStands since before old → SendHappens old now before f output new
+reply_happens old new since now before place f r m said client (reply.Responds says datagram) output later within is left from replies sends asks told stands =
+    subst (λ (o : Sent). SendHappens old now before f o new) (sym sends)
+    (answer_happens old new since now before place f r m said client (reply.Responds says datagram) (Some says) datagram later within is left from refl replies asks told stands)
+reply_happens old new since now before place f r m said client (reply.Reports datagram) output later within is left from replies sends asks told stands =
+    subst (λ (o : Sent). SendHappens old now before f o new) (sym sends)
+    (answer_happens old new since now before place f r m said client (reply.Reports datagram) None datagram later within is left from refl replies asks told stands)
 reply_happens old new since now before place f r m said client reply.Nothing output later within is left from replies sends asks told stands =
     subst (λ (o : Sent). SendHappens old now before f o new) (sym sends) (unanswered_happens old new since now before place f r m said None later within is left asks told stands)
 reply_happens old new since now before place f r m said client reply.SilentDrop output later within is left from replies sends asks told stands =

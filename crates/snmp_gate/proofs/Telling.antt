@@ -34,13 +34,13 @@ use Rattle.gateway_laws.proofs.Lists.{all_shown}
 use Rattle.snmp_gate.specs.Messages.{question_given, seen_in}
 use Rattle.snmp_gate.specs.Question.{Question}
 use Rattle.snmp_gate.specs.ReadAsks.{read_type}
-use Rattle.snmp_gate.specs.Replies.{Answering, IsFrontSentOr, IsOwnList, IsReportedOr, IsReplyTo, IsSentOr, MayTell, MayTellBulk, columns, front, set, told_with, too_big}
+use Rattle.snmp_gate.specs.Replies.{Answering, IsFrontSentOr, IsOwnList, IsReportedOr, IsReplyTo, IsSentOr, MayTell, MayTellBulk, Told, columns, front, set, told_with, too_big, without_error}
 use Rattle.snmp_gate.specs.Said.{AreTrue, IsSetStatus, Said}
 use Rattle.snmp_gate.specs.Work.{BulkStandsFor, IsOwnStatus}
 use Rattle.snmp_gate.specs.declared.reply.Reply.{Reply}
 use Rattle.snmp_gate.specs.declared.reply.Reply.TheVariants as reply
 use Rattle.snmp_gate.specs.declared.set_answer.ResponseStatus.{ResponseStatus}
-use Rattle.snmp_gate.specs.declared.set_answer.TheConstants.{NO_ERROR}
+use Rattle.snmp_gate.specs.declared.set_answer.TheConstants.{GEN_ERR, NO_ERROR}
 
 true_or_false : (b : Bool) → (b ≡ true) ⊎ (b ≡ false)
 true_or_false true = inl refl
@@ -57,11 +57,11 @@ signed_tells a b = elim (true_or_false (int_eq a b)) [
 may_tell_too_big : (tables : Tables) (q : Question) (said : Said) → MayTell tables q said too_big
 may_tell_too_big tables q said = (λ is_set. inl refl, inr (inr (refl, refl)))
 
-may_tell_own : (tables : Tables) (q : Question) (said : Said) (status index : ℤ) (vs : List Variable) → (status ≡ NO_ERROR → q.tag ≡ pdu_tag SetRequest) → (q.tag ≡ pdu_tag SetRequest → IsSetStatus said status) → IsOwnList q status vs
-    → MayTell tables q said (told_with status index vs)
-may_tell_own tables q said status index vs own of_set (inl (is, none)) = (of_set, inr (inr (is, none)))
-may_tell_own tables q said status index vs own of_set (inr (is, all)) =
-    elim (signed_tells status NO_ERROR) [
+may_tell_own : (tables : Tables) (q : Question) (said : Said) (says : ResponseStatus) (vs : List Variable) → (says.status ≡ NO_ERROR → q.tag ≡ pdu_tag SetRequest) → (q.tag ≡ pdu_tag SetRequest → IsSetStatus said says.status) → IsOwnList q says.status vs
+    → MayTell tables q said (told_with says vs)
+may_tell_own tables q said says vs own of_set (inl (is, none)) = (of_set, inr (inr (is, none)))
+may_tell_own tables q said says vs own of_set (inr (is, all)) =
+    elim (signed_tells says.status NO_ERROR) [
       | inl same ↦ (of_set, inl (same, set (own same) all))
       | inr other ↦ (of_set, inr (inl (other, all)))
     ]
@@ -75,17 +75,17 @@ pub no_bulk : (q : Question) → q.tag ≡ pdu_tag GetBulkRequest → q.tag ≡ 
 no_bulk q tag is_set = omega (arith, is_set, tag)
 
 -- what is sent is what may be told, or tooBig
-pub sent_reply : (a : Answering) (tables : Tables) (q : Question) (said : Said) (g : Given) (status index : ℤ) (vs : List Variable) (r : Reply) → MayTell tables q said (told_with status index vs)
-    → IsSentOr a g (told_with status index vs) r → IsReplyTo a tables q said g r
-sent_reply a tables q said g status index vs (reply.Sends datagram) may (inl sent) = inl (told_with status index vs, sent, may)
-sent_reply a tables q said g status index vs (reply.Sends datagram) may (inr sent) = inl (too_big, sent, may_tell_too_big tables q said)
-sent_reply a tables q said g status index vs reply.Nothing may sent = tt
-sent_reply a tables q said g status index vs reply.SilentDrop may sent = tt
-sent_reply a tables q said g status index vs (reply.Refused why) may sent = tt
+pub sent_reply : (a : Answering) (tables : Tables) (q : Question) (said : Said) (g : Given) (told : Told) (r : Reply) → MayTell tables q said told → IsSentOr a g told r → IsReplyTo a tables q said g r
+sent_reply a tables q said g told (reply.Responds says datagram) may (inl sent) = inl (told, sent, may)
+sent_reply a tables q said g told (reply.Responds says datagram) may (inr sent) = inl (too_big, sent, may_tell_too_big tables q said)
+sent_reply a tables q said g told (reply.Reports datagram) may sent = absurd sent
+sent_reply a tables q said g told reply.Nothing may sent = tt
+sent_reply a tables q said g told reply.SilentDrop may sent = tt
+sent_reply a tables q said g told (reply.Refused why) may sent = tt
 
 pub own_reply : (a : Answering) (tables : Tables) (q : Question) (said : Said) (g : Given) (says : ResponseStatus) (vs : List Variable) (r : Reply) → IsOwnStatus q said says → IsOwnList q says.status vs
-    → IsSentOr a g (told_with says.status says.index vs) r → IsReplyTo a tables q said g r
-own_reply a tables q said g says vs r own list sent = sent_reply a tables q said g says.status says.index vs r (may_tell_own tables q said says.status says.index vs own.no_error own.set list) sent
+    → IsSentOr a g (told_with says vs) r → IsReplyTo a tables q said g r
+own_reply a tables q said g says vs r own list sent = sent_reply a tables q said g (told_with says vs) r (may_tell_own tables q said says vs own.no_error own.set list) sent
 
 -- ---- a binding of each column
 
@@ -106,9 +106,9 @@ zip_shows Seen said o (c ∷ cs) (v ∷ vs) (b ∷ bs) same zip =
 
 pub columns_reply : (a : Answering) (tables : Tables) (q : Question) (said : Said) (g : Given) (o : ReadOperation) (cs : List Column) (bs : List Binding) (r : Reply) → q.tag ≡ pdu_tag (read_type o)
     → map request cs ≡ requests_of o (variables_of q.list) → AllZip (Shows (seen_in tables q) said.variables) cs bs → AllZip IsShown cs bs
-    → ((device : Known) → IsDevice device → AreTrue device said → AllTrack device (seen_in tables q) cs) → IsSentOr a g (told_with NO_ERROR (pos 0) (map variable_of bs)) r → IsReplyTo a tables q said g r
+    → ((device : Known) → IsDevice device → AreTrue device said → AllTrack device (seen_in tables q) cs) → IsSentOr a g (without_error (map variable_of bs)) r → IsReplyTo a tables q said g r
 columns_reply a tables q said g o cs bs r tag same zip shown tracks sent =
-    sent_reply a tables q said g NO_ERROR (pos 0) (map variable_of bs) r (
+    sent_reply a tables q said g (without_error (map variable_of bs)) r (
       λ is_set. absurd (no_read q o tag is_set),
       inl (
         refl,
@@ -163,7 +163,7 @@ tells_bulk Seen said vs n m cs v same stand shown =
 
 pub front_reply : (a : Answering) (tables : Tables) (q : Question) (said : Said) (g : Given) (d : BulkDialogue) (bs : List Binding) (r : Reply) → BulkStandsFor tables q said d
     → All (IsShownOf (seen_in tables q) said.variables d.columns.items) (map variable_of bs) → IsFront d.non_repeaters d.max_repetitions d.columns.items (map variable_of bs) → IsFrontSentOr a g (map variable_of bs) r → IsReplyTo a tables q said g r
-front_reply a tables q said g d bs (reply.Sends datagram) stands all is_front (inl (n, sent)) =
+front_reply a tables q said g d bs (reply.Responds says datagram) stands all is_front (inl (n, sent)) =
     let names = column_names d.non_repeaters d.max_repetitions (variables_of q.list) d.columns.items stands.requests_are in
     let law = λ (device : Known) (plain : IsDevice device) (truly : AreTrue device said).
     bulk_take device (seen_in tables q) (map (λ (v : Variable). v.name) (variables_of q.list)) d.non_repeaters d.max_repetitions (map variable_of bs) n
@@ -171,24 +171,29 @@ front_reply a tables q said g d bs (reply.Sends datagram) stands all is_front (i
     (front_of_bulk device (seen_in tables q) plain d.non_repeaters d.max_repetitions d.columns.items (map variable_of bs) (stands.tracks device plain truly) is_front)) in
     let may = λ (v : Variable) (is : IsShownOf (seen_in tables q) said.variables d.columns.items v). tells_bulk (seen_in tables q) said.variables (variables_of q.list) d.non_repeaters d.max_repetitions d.columns.items v stands.requests_are stands.stand is in
     inl (
-      told_with NO_ERROR (pos 0) (take n (map variable_of bs)),
+      without_error (take n (map variable_of bs)),
       sent,
       (λ is_set. absurd (no_bulk q stands.tag is_set), inl (refl, front stands.tag (All-take (MayTellBulk (seen_in tables q) said.variables (variables_of q.list)) n (map variable_of bs) (All-weaker (IsShownOf (seen_in tables q) said.variables d.columns.items) (MayTellBulk (seen_in tables q) said.variables (variables_of q.list)) may (map variable_of bs) all)) d.non_repeaters d.max_repetitions stands.first stands.most law)),
     )
-front_reply a tables q said g d bs (reply.Sends datagram) stands all is_front (inr sent) = inl (too_big, sent, may_tell_too_big tables q said)
+front_reply a tables q said g d bs (reply.Responds says datagram) stands all is_front (inr sent) = inl (too_big, sent, may_tell_too_big tables q said)
+front_reply a tables q said g d bs (reply.Reports datagram) stands all is_front sent = absurd sent
 front_reply a tables q said g d bs reply.Nothing stands all is_front sent = tt
 front_reply a tables q said g d bs reply.SilentDrop stands all is_front sent = tt
 front_reply a tables q said g d bs (reply.Refused why) stands all is_front sent = tt
 
 pub report_reply : (a : Answering) (tables : Tables) (q : Question) (said : Said) (g : Given) (r : Reply) → IsReportedOr a g r → IsReplyTo a tables q said g r
-report_reply a tables q said g (reply.Sends datagram) is = inr is
+report_reply a tables q said g (reply.Responds says datagram) is = absurd is
+report_reply a tables q said g (reply.Reports datagram) is = inr is
 report_reply a tables q said g reply.Nothing is = tt
 report_reply a tables q said g reply.SilentDrop is = tt
 report_reply a tables q said g (reply.Refused why) is = tt
 
 -- genErr may be told of any request for values
+pub gen_err_told : (q : Question) (said : Said) (says : ResponseStatus) → says.status ≡ GEN_ERR → (q.tag ≡ pdu_tag SetRequest → ⊥) → IsOwnStatus q said says
+gen_err_told q said says is read = record { no_error = λ none. absurd (false≢true ((Decides-int_eq GEN_ERR NO_ERROR).1 (sym is ∙ none))); set = λ is_set. absurd (read is_set) }
+
 pub unwritten : (q : Question) (said : Said) → (q.tag ≡ pdu_tag SetRequest → ⊥) → IsOwnStatus q said (record { status = pos 5; index = pos 0 })
-unwritten q said read = record { no_error = λ is. absurd (false≢true ((Decides-int_eq (pos 5) (pos 0)).1 is)); set = λ is_set. absurd (read is_set) }
+unwritten q said read = gen_err_told q said (record { status = pos 5; index = pos 0 }) refl read
 
 pub of_message : (a : Answering) (tables : Tables) (q : Question) (said : Said) (g kept : Given) (client : List ℕ) (r : Reply) → g ≡ kept → (question_given client g ≡ Some q → IsReplyTo a tables q said g r)
     → question_given client kept ≡ Some q → IsReplyTo a tables q said kept r

@@ -15,7 +15,7 @@ use Rattle.snmp_gate.specs.History.{Happening, accepted, answered, asked, asked_
 use Rattle.snmp_gate.specs.Lawful.{WasAsked}
 use Rattle.snmp_gate.specs.Messages.{seen_in}
 use Rattle.snmp_gate.specs.Question.{Question}
-use Rattle.snmp_gate.specs.Replies.{Answering, IsAnswerTo, MayTellValues, columns, front, set}
+use Rattle.snmp_gate.specs.Replies.{Answering, ClientAnswer, IsAnswerTo, MayTellValues, columns, front, set}
 use Rattle.snmp_gate.specs.Said.{AreTrue, Said}
 use Rattle.snmp_gate.specs.Through.{ShowsDevice, TellsDevice, TellsSet, bulk, reads, sets}
 use Rattle.snmp_gate.specs.declared.set_answer.TheConstants.{NO_ERROR, TOO_BIG}
@@ -27,11 +27,11 @@ module _ (device : Known) (plain : IsDevice device) (tables : Tables) (q : Quest
   shows vs (front tag each non_repeaters max_repetitions first most whole) = bulk tag non_repeaters max_repetitions first most (whole device plain truly)
   shows vs (set tag own) = sets tag own
 
-  pub tells_device : (by : Answering) (g : Given) (datagram : List ℕ) → IsAnswerTo by tables q said g datagram → TellsDevice device (seen_in tables q) by q g datagram
-  tells_device by g datagram (inr report) = inl report
-  tells_device by g datagram (inl (told, out, (status, inl (none, may)))) = inr (told, out, λ is. shows told.variables may)
-  tells_device by g datagram (inl (told, out, (status, inr (inl (error, own))))) = inr (told, out, λ is. absurd (error is))
-  tells_device by g datagram (inl (told, out, (status, inr (inr (big, none))))) = inr (told, out, λ is. absurd (false≢true ((Decides-int_eq TOO_BIG NO_ERROR).1 (sym big ∙ is))))
+  pub tells_device : (by : Answering) (g : Given) (answer : ClientAnswer) → IsAnswerTo by tables q said g answer → TellsDevice device (seen_in tables q) by q g answer
+  tells_device by g answer (inr report) = inl report
+  tells_device by g answer (inl (told, out, (status, inl (none, may)))) = inr (told, out, λ is. shows told.variables may)
+  tells_device by g answer (inl (told, out, (status, inr (inl (error, own))))) = inr (told, out, λ is. absurd (error is))
+  tells_device by g answer (inl (told, out, (status, inr (inr (big, none))))) = inr (told, out, λ is. absurd (false≢true ((Decides-int_eq TOO_BIG NO_ERROR).1 (sym big ∙ is))))
 
 -- ---- a Set
 
@@ -56,9 +56,9 @@ some_asked n (sent k m by w ∷ before) was = some_asked n before (was_before (s
 some_asked n (unanswered k m ∷ before) was = some_asked n before (was_before (unanswered k m) before n (λ d id what v same. let wrong : unanswered k m ≡ asked n d id what v = same in cc) was)
 some_asked n (given_up k d ∷ before) was = some_asked n before (was_before (given_up k d) before n (λ e id what v same. let wrong : given_up k d ≡ asked n e id what v = same in cc) was)
 
-tells_set : (tables : Tables) (q : Question) (said : Said) (by : Answering) (g : Given) (datagram : List ℕ) → q.tag ≡ pdu_tag SetRequest → 0 < length said.asked → IsAnswerTo by tables q said g datagram → TellsSet said by g datagram
-tells_set tables q said by g datagram set_is some (inr report) = inl report
-tells_set tables q said by g datagram set_is some (inl (told, out, (status, variables))) = inr (
+tells_set : (tables : Tables) (q : Question) (said : Said) (by : Answering) (g : Given) (answer : ClientAnswer) → q.tag ≡ pdu_tag SetRequest → 0 < length said.asked → IsAnswerTo by tables q said g answer → TellsSet said by g answer
+tells_set tables q said by g answer set_is some (inr report) = inl report
+tells_set tables q said by g answer set_is some (inl (told, out, (status, variables))) = inr (
   told,
   out,
   elim (status set_is) [
@@ -68,6 +68,6 @@ tells_set tables q said by g datagram set_is some (inl (told, out, (status, vari
   ],
 )
 
-pub tells_of_set : (tables : Tables) (q : Question) (n : ℕ) (before : List Happening) → q.tag ≡ pdu_tag SetRequest → WasAsked before n → (by : Answering) (g : Given) (datagram : List ℕ)
-    → IsAnswerTo by tables q (told_in n before) g datagram → TellsSet (told_in n before) by g datagram
-tells_of_set tables q n before set_is was by g datagram answer = tells_set tables q (told_in n before) by g datagram set_is (some_asked n before was) answer
+pub tells_of_set : (tables : Tables) (q : Question) (n : ℕ) (before : List Happening) → q.tag ≡ pdu_tag SetRequest → WasAsked before n → (by : Answering) (g : Given) (answer : ClientAnswer)
+    → IsAnswerTo by tables q (told_in n before) g answer → TellsSet (told_in n before) by g answer
+tells_of_set tables q n before set_is was by g answer is = tells_set tables q (told_in n before) by g answer set_is (some_asked n before was) is

@@ -24,7 +24,7 @@ use Rattle.snmp_gate.specs.Devices.{IsDeviceOf}
 use Rattle.snmp_gate.specs.Messages.{question_in, seen_in, set_in}
 use Rattle.snmp_gate.specs.Question.{Question}
 use Rattle.snmp_gate.specs.ReadAsks.{plain_request, read_type}
-use Rattle.snmp_gate.specs.Replies.{Answering, IsAnswerTo}
+use Rattle.snmp_gate.specs.Replies.{Answering, ClientAnswer, IsAnswerTo}
 use Rattle.snmp_gate.specs.Said.{Exchange, Said, said_nothing}
 use Rattle.snmp_gate.specs.Work.{end_of, says_no_such_name}
 use Rattle.snmp_gate.specs.declared.devices.Device.{Device}
@@ -38,7 +38,7 @@ pub data Happening : Type 0 where
   -- the answer of a device is taken, for the request of this number
   answered : (number device : ℕ) (answer : PduParts) (datagram : List ℕ) → Happening
   -- a client is sent the answer to a message that asks the request of this number
-  sent : (number : ℕ) (message : WaitingMessage) (by : Answering) (datagram : List ℕ) → Happening
+  sent : (number : ℕ) (message : WaitingMessage) (by : Answering) (answer : ClientAnswer) → Happening
   -- such a message isn't answered
   unanswered : (number : ℕ) (message : WaitingMessage) → Happening
   -- the device didn't answer in time: the request of this number is given up
@@ -49,7 +49,7 @@ abbrev pub number_of : Happening → ℕ
 number_of (accepted number now datagram message) = number
 number_of (asked number device id request datagram) = number
 number_of (answered number device answer datagram) = number
-number_of (sent number message by datagram) = number
+number_of (sent number message by answer) = number
 number_of (unanswered number message) = number
 number_of (given_up number device) = number
 
@@ -60,7 +60,7 @@ waiting_in n (accepted number now datagram message ∷ before) =
     cond (nat_eq n number) (waiting_in n before ++ message ∷ []) (waiting_in n before)
 waiting_in n (asked number device id request datagram ∷ before) = waiting_in n before
 waiting_in n (answered number device answer datagram ∷ before) = waiting_in n before
-waiting_in n (sent number message by datagram ∷ before) =
+waiting_in n (sent number message by answer ∷ before) =
     cond (nat_eq n number) (drop 1 (waiting_in n before)) (waiting_in n before)
 waiting_in n (unanswered number message ∷ before) =
     cond (nat_eq n number) (drop 1 (waiting_in n before)) (waiting_in n before)
@@ -79,7 +79,7 @@ open_ask n (accepted number now datagram message ∷ before) = open_ask n before
 open_ask n (asked number device id request datagram ∷ before) =
     cond (nat_eq n number) (Some (record { device = device; id = id; request = request })) (open_ask n before)
 open_ask n (answered number device answer datagram ∷ before) = cond (nat_eq n number) None (open_ask n before)
-open_ask n (sent number message by datagram ∷ before) = open_ask n before
+open_ask n (sent number message by answer ∷ before) = open_ask n before
 open_ask n (unanswered number message ∷ before) = open_ask n before
 open_ask n (given_up number device ∷ before) = cond (nat_eq n number) None (open_ask n before)
 
@@ -118,7 +118,7 @@ told_in n (asked number device id request datagram ∷ before) =
     cond (nat_eq n number) (asked_more request (told_in n before)) (told_in n before)
 told_in n (answered number device answer datagram ∷ before) =
     cond (nat_eq n number) (more_said (open_ask n before) answer (told_in n before)) (told_in n before)
-told_in n (sent number message by datagram ∷ before) = told_in n before
+told_in n (sent number message by answer ∷ before) = told_in n before
 told_in n (unanswered number message ∷ before) = told_in n before
 told_in n (given_up number device ∷ before) = told_in n before
 
@@ -191,9 +191,9 @@ IsMediated agent devices before (asked number device id request datagram) = (q :
     × HoldsAt (λ (d : Device). MayAskFor agent.tables d q (told_in number before) id request datagram) devices device
 IsMediated agent devices before (answered number device answer datagram) =
     IsAnswerOf devices before number device answer datagram
-IsMediated agent devices before (sent number message by datagram) = IsAccepted before number message
+IsMediated agent devices before (sent number message by answer) = IsAccepted before number message
     × ((q : Question) → question_in message ≡ Some q
-    → IsAnswerTo by agent.tables q (told_in number before) message.kept datagram)
+    → IsAnswerTo by agent.tables q (told_in number before) message.kept answer)
 IsMediated agent devices before (unanswered number message) = IsAccepted before number message
 IsMediated agent devices before (given_up number device) = (q : Question) × AskedBy before number q
     × IsDeviceOf devices q.context device

@@ -26,7 +26,7 @@ IsNext before number message = (others : List WaitingMessage) × (waiting_in num
 abbrev pub IsInTurn : List Happening → Happening → Type 0
 IsInTurn before (accepted number now datagram message) =
     All (λ (m : WaitingMessage). question_in m ≡ question_in message) (waiting_in number before)
-IsInTurn before (sent number message by datagram) = IsNext before number message
+IsInTurn before (sent number message by answer) = IsNext before number message
 IsInTurn before (unanswered number message) = IsNext before number message
 IsInTurn before _ = ⊤
 

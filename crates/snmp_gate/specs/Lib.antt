@@ -21,6 +21,7 @@ pub mod Through
 pub mod History
 pub mod Lawful
 pub mod Taking
+pub mod Fits
 pub mod Waiting
 pub mod Sending
 pub mod Beginning

@@ -29,7 +29,7 @@ asks_since n (asked number device id request datagram ∷ before) =
     cond (nat_eq n number) (1 + asks_since n before) (asks_since n before)
 asks_since n (answered number device answer datagram ∷ before) = cond (nat_eq n number) 0 (asks_since n before)
 asks_since n (accepted number now datagram message ∷ before) = asks_since n before
-asks_since n (sent number message by datagram ∷ before) = asks_since n before
+asks_since n (sent number message by answer ∷ before) = asks_since n before
 asks_since n (unanswered number message ∷ before) = asks_since n before
 asks_since n (given_up number device ∷ before) = asks_since n before
 

@@ -1,9 +1,11 @@
 -- What a client is sent (RFC 3413, section 3.2; RFC 3416, section 4.2).
 --
--- `IsSent`: the Response to an accepted message with an error-status, an error-index and bindings. `IsSentOr`: that, or
--- tooBig without bindings. `MayTell`: the law outwards, which Response a message may be sent. `IsReplyTo`: what becomes
--- of a message.
-use Rattle.std.specs.Prelude.{◌≡◌, ◌≢◌, ◌⊎◌, ⊤, ℕ, ℤ, pos, List, [], All, Contains, Some, Ok, map, take}
+-- `IsSent`: the Response to an accepted message with an error-status, an error-index and bindings. `ClientAnswer`:
+-- what a client is sent, and which error-status and error-index are said of it. `IsResponse`, `IsReport`: what is said
+-- of it is true. `IsSentOr`: it is that Response, or tooBig without bindings. `MayTell`: the law outwards, which
+-- Response a message may be sent. `IsReplyTo`: what becomes of a message.
+use Rattle.std.specs.Prelude.{◌≡◌, ◌≢◌, ◌⊎◌, ⊤, ℕ, ℤ, pos, List, [], All, Contains, Option, Some, None, Ok, map, take}
+use Rattle.std.specs.Global.{Vec}
 use Rattle.std.specs.List.{AllZip}
 use Rattle.snmp_message.specs.Scoped.{Contexts, ScopedFront}
 use Rattle.snmp_msg.specs.Pdu.{PduParts, PduText}
@@ -33,6 +35,7 @@ use Rattle.snmp_gate.specs.Said.{AreTrue, IsSetStatus, Said}
 use Rattle.snmp_gate.specs.declared.reply.Reply.{Reply}
 use Rattle.snmp_gate.specs.declared.reply.Reply.TheVariants as reply
 use Rattle.snmp_gate.specs.declared.reply.Sealing.{Sealing}
+use Rattle.snmp_gate.specs.declared.set_answer.ResponseStatus.{ResponseStatus}
 use Rattle.snmp_gate.specs.declared.set_answer.TheConstants.{NO_ERROR, TOO_BIG}
 
 -- what is told of a request: error-status, error-index and bindings
@@ -61,6 +64,25 @@ IsSent a g told datagram = (c : Contexts) (p : PduParts) → ScopedFront g.text 
 abbrev pub IsReported : Answering → Given → List ℕ → Type 0
 IsReported a g datagram = (c : Contexts) (p : PduParts) → ScopedFront g.text c → PduText c.pdu p
     → (why : Unhandled) × (after : AgentState) × Refuses a.agent a.now g p why a.salt (Ok (Some datagram)) after
+
+-- what a client is sent; and what is said of it: the error-status and the error-index of a Response, or nothing
+pub record ClientAnswer : Type 0 where
+  pub says : Option ResponseStatus
+  pub datagram : List ℕ
+
+abbrev pub status_in : Told → ResponseStatus
+status_in told = record { status = told.status; index = told.index }
+
+-- it is the Response to the message that tells this, and so is said of it
+abbrev pub IsResponse : Answering → Given → Told → ClientAnswer → Type 0
+IsResponse a g told answer = IsSent a g told answer.datagram × (answer.says ≡ Some (status_in told))
+
+-- it is a report on the message, of which nothing is said
+abbrev pub IsReport : Answering → Given → ClientAnswer → Type 0
+IsReport a g answer = IsReported a g answer.datagram × (answer.says ≡ None)
+
+abbrev pub answer_with : Option ResponseStatus → Vec ℕ → ClientAnswer
+answer_with says datagram = record { says = says; datagram = datagram.items }
 
 -- ---- the law outwards
 
@@ -103,11 +125,11 @@ MayTell tables q said told = (q.tag ≡ pdu_tag SetRequest → IsSetStatus said 
     ⊎ (((told.status ≢ NO_ERROR) × (told.variables ≡ variables_of q.list))
     ⊎ ((told.status ≡ TOO_BIG) × (told.variables ≡ []))))
 
--- the datagram is a Response that may be sent, or a report
-abbrev pub IsAnswerTo : Answering → Tables → Question → Said → Given → List ℕ → Type 0
-IsAnswerTo a tables q said g datagram =
-    ((told : Told) × IsSent a g told datagram × MayTell tables q said told)
-    ⊎ IsReported a g datagram
+-- it is a Response that may be sent, or a report
+abbrev pub IsAnswerTo : Answering → Tables → Question → Said → Given → ClientAnswer → Type 0
+IsAnswerTo a tables q said g answer =
+    ((told : Told) × IsResponse a g told answer × MayTell tables q said told)
+    ⊎ IsReport a g answer
 
 -- of a request's own bindings: none with tooBig
 abbrev pub IsOwnList : Question → ℤ → List Variable → Type 0
@@ -116,32 +138,42 @@ IsOwnList q status vs = ((status ≡ TOO_BIG) × (vs ≡ [])) ⊎ ((status ≢ T
 abbrev pub answering : AgentState → Sealing → Answering
 answering agent s = record { agent = agent; now = s.seconds; salt = s.salt }
 
-abbrev pub told_with : ℤ → ℤ → List Variable → Told
-told_with status index vs = record { status = status; index = index; variables = vs }
+abbrev pub told_with : ResponseStatus → List Variable → Told
+told_with says vs = record { status = says.status; index = says.index; variables = vs }
+
+abbrev pub without_error : List Variable → Told
+without_error vs = record { status = NO_ERROR; index = pos 0; variables = vs }
 
 abbrev pub IsTooBigOr : Answering → Given → Reply → Type 0
-IsTooBigOr a g (reply.Sends datagram) = IsSent a g too_big datagram.items
+IsTooBigOr a g (reply.Responds says datagram) = IsResponse a g too_big (answer_with (Some says) datagram)
+IsTooBigOr a g (reply.Reports datagram) = ⊥
 IsTooBigOr a g _ = ⊤
 
 -- what is sent is this, or tooBig
 abbrev pub IsSentOr : Answering → Given → Told → Reply → Type 0
-IsSentOr a g told (reply.Sends datagram) = IsSent a g told datagram.items ⊎ IsSent a g too_big datagram.items
+IsSentOr a g told (reply.Responds says datagram) =
+    IsResponse a g told (answer_with (Some says) datagram) ⊎ IsResponse a g too_big (answer_with (Some says) datagram)
+IsSentOr a g told (reply.Reports datagram) = ⊥
 IsSentOr a g told _ = ⊤
 
 -- the same of the longest front that has room
 abbrev pub IsFrontSentOr : Answering → Given → List Variable → Reply → Type 0
-IsFrontSentOr a g vs (reply.Sends datagram) =
-    ((n : ℕ) × IsSent a g (record { status = NO_ERROR; index = pos 0; variables = take n vs }) datagram.items)
-    ⊎ IsSent a g too_big datagram.items
+IsFrontSentOr a g vs (reply.Responds says datagram) =
+    ((n : ℕ) × IsResponse a g (without_error (take n vs)) (answer_with (Some says) datagram))
+    ⊎ IsResponse a g too_big (answer_with (Some says) datagram)
+IsFrontSentOr a g vs (reply.Reports datagram) = ⊥
 IsFrontSentOr a g vs _ = ⊤
 
 abbrev pub IsReportedOr : Answering → Given → Reply → Type 0
-IsReportedOr a g (reply.Sends datagram) = IsReported a g datagram.items
+IsReportedOr a g (reply.Responds says datagram) = ⊥
+IsReportedOr a g (reply.Reports datagram) = IsReport a g (answer_with None datagram)
 IsReportedOr a g _ = ⊤
 
 -- what becomes of the message
 abbrev pub IsReplyTo : Answering → Tables → Question → Said → Given → Reply → Type 0
-IsReplyTo a tables q said g (reply.Sends datagram) = IsAnswerTo a tables q said g datagram.items
+IsReplyTo a tables q said g (reply.Responds says datagram) =
+    IsAnswerTo a tables q said g (answer_with (Some says) datagram)
+IsReplyTo a tables q said g (reply.Reports datagram) = IsAnswerTo a tables q said g (answer_with None datagram)
 IsReplyTo a tables q said g _ = ⊤
 
 -- the agent has the same engine, users and tables

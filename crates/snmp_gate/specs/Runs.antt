@@ -7,6 +7,7 @@ use Rattle.std.specs.Prelude.{◌≡◌, ◌≤◌, cond, nat_eq, ℕ, List, [],
 use Rattle.snmp_gate.specs.Due.{AreIdle}
 use Rattle.snmp_gate.specs.History.{Happening, accepted, answered, asked, given_up, sent, unanswered}
 use Rattle.snmp_gate.specs.Lawful.{AreLawful}
+use Rattle.snmp_gate.specs.Replies.{ClientAnswer, answer_with}
 use Rattle.snmp_gate.specs.Waiting.{ClientHappens, DeviceHappens, Fresh, GateStands, IsAsBefore, SendHappens, Stays}
 use Rattle.snmp_gate.specs.declared.gate.ClientTaken.{ClientTaken}
 use Rattle.snmp_gate.specs.declared.gate.DeviceTaken.{DeviceTaken}
@@ -70,8 +71,8 @@ abbrev pub sent_to_device : Sent → List (ℕ × List ℕ)
 sent_to_device (ToDevice number device datagram) = (device, datagram.items) ∷ []
 sent_to_device _ = []
 
-abbrev pub sent_to_client : Sent → List (List ℕ × List ℕ)
-sent_to_client (ToClient number client datagram) = (client.items, datagram.items) ∷ []
+abbrev pub sent_to_client : Sent → List (List ℕ × ClientAnswer)
+sent_to_client (ToClient number client says datagram) = (client.items, answer_with says datagram) ∷ []
 sent_to_client _ = []
 
 abbrev pub to_devices : List Event → List (ℕ × List ℕ)
@@ -81,7 +82,7 @@ to_devices (client_comes now client datagram taken ∷ before) = to_devices befo
 to_devices (device_comes now device datagram taken ∷ before) = to_devices before
 to_devices (finds_no_memory now ∷ before) = to_devices before
 
-abbrev pub to_clients : List Event → List (List ℕ × List ℕ)
+abbrev pub to_clients : List Event → List (List ℕ × ClientAnswer)
 to_clients [] = []
 to_clients (goes_out now f what ∷ before) = sent_to_client what ++ to_clients before
 to_clients (client_comes now client datagram taken ∷ before) = to_clients before
@@ -94,13 +95,13 @@ asked_in [] = []
 asked_in (asked number device id request datagram ∷ before) = (device, datagram) ∷ asked_in before
 asked_in (accepted number now datagram message ∷ before) = asked_in before
 asked_in (answered number device answer datagram ∷ before) = asked_in before
-asked_in (sent number message by datagram ∷ before) = asked_in before
+asked_in (sent number message by answer ∷ before) = asked_in before
 asked_in (unanswered number message ∷ before) = asked_in before
 asked_in (given_up number device ∷ before) = asked_in before
 
-abbrev pub sent_in : List Happening → List (List ℕ × List ℕ)
+abbrev pub sent_in : List Happening → List (List ℕ × ClientAnswer)
 sent_in [] = []
-sent_in (sent number message by datagram ∷ before) = (message.client.items, datagram) ∷ sent_in before
+sent_in (sent number message by answer ∷ before) = (message.client.items, answer) ∷ sent_in before
 sent_in (accepted number now datagram message ∷ before) = sent_in before
 sent_in (asked number device id request datagram ∷ before) = sent_in before
 sent_in (answered number device answer datagram ∷ before) = sent_in before
@@ -122,14 +123,14 @@ accepted_for n (accepted number now datagram message ∷ before) =
     cond (nat_eq n number) (accepted_for n before ++ message ∷ []) (accepted_for n before)
 accepted_for n (asked number device id request datagram ∷ before) = accepted_for n before
 accepted_for n (answered number device answer datagram ∷ before) = accepted_for n before
-accepted_for n (sent number message by datagram ∷ before) = accepted_for n before
+accepted_for n (sent number message by answer ∷ before) = accepted_for n before
 accepted_for n (unanswered number message ∷ before) = accepted_for n before
 accepted_for n (given_up number device ∷ before) = accepted_for n before
 
 -- those that were answered, or weren't and won't be
 abbrev pub ended_for : ℕ → List Happening → List WaitingMessage
 ended_for n [] = []
-ended_for n (sent number message by datagram ∷ before) =
+ended_for n (sent number message by answer ∷ before) =
     cond (nat_eq n number) (ended_for n before ++ message ∷ []) (ended_for n before)
 ended_for n (unanswered number message ∷ before) =
     cond (nat_eq n number) (ended_for n before ++ message ∷ []) (ended_for n before)

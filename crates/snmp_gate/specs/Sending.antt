@@ -35,7 +35,8 @@ RepliesTo agent seconds salt q said g (Ends e) r = EndingStands agent.tables q s
 RepliesTo agent seconds salt q said g (Open o) r = ⊥
 
 abbrev pub IsSentBy : ℕ → Vec ℕ → Reply → Sent → Type 0
-IsSentBy number client (reply.Sends datagram) sent = sent ≡ ToClient number client datagram
+IsSentBy number client (reply.Responds says datagram) sent = sent ≡ ToClient number client (Some says) datagram
+IsSentBy number client (reply.Reports datagram) sent = sent ≡ ToClient number client None datagram
 IsSentBy number client reply.Nothing sent = sent ≡ Unanswered number None
 IsSentBy number client reply.SilentDrop sent = sent ≡ Unanswered number None
 IsSentBy number client (reply.Refused why) sent = sent ≡ Unanswered number (Some why)

@@ -16,7 +16,7 @@ use Rattle.gateway_laws.specs.Bulk.{IsFrontOfBulk}
 use Rattle.gateway_laws.specs.Device.{AreAnswered}
 use Rattle.snmp_gate.specs.Question.{Question}
 use Rattle.snmp_gate.specs.ReadAsks.{read_type}
-use Rattle.snmp_gate.specs.Replies.{Answering, IsReported, IsSent, Told}
+use Rattle.snmp_gate.specs.Replies.{Answering, ClientAnswer, IsReport, IsResponse, Told}
 use Rattle.snmp_gate.specs.Said.{Said, SaysOfSet}
 use Rattle.snmp_gate.specs.declared.set_answer.TheConstants.{NO_ERROR, TOO_BIG}
 
@@ -31,10 +31,11 @@ pub data ShowsDevice (device : Known) (Seen : List ℕ → Type 0) (q : Question
       vs → ShowsDevice device Seen q vs
   sets : q.tag ≡ pdu_tag SetRequest → vs ≡ variables_of q.list → ShowsDevice device Seen q vs
 
-abbrev pub TellsDevice : Known → (List ℕ → Type 0) → Answering → Question → Given → List ℕ → Type 0
-TellsDevice device Seen by q g datagram = IsReported by g datagram
-    ⊎ ((told : Told) × IsSent by g told datagram × (told.status ≡ NO_ERROR → ShowsDevice device Seen q told.variables))
+abbrev pub TellsDevice : Known → (List ℕ → Type 0) → Answering → Question → Given → ClientAnswer → Type 0
+TellsDevice device Seen by q g answer = IsReport by g answer
+    ⊎ ((told : Told) × IsResponse by g told answer
+    × (told.status ≡ NO_ERROR → ShowsDevice device Seen q told.variables))
 
-abbrev pub TellsSet : Said → Answering → Given → List ℕ → Type 0
-TellsSet said by g datagram = IsReported by g datagram
-    ⊎ ((told : Told) × IsSent by g told datagram × ((told.status ≡ TOO_BIG) ⊎ SaysOfSet said told.status))
+abbrev pub TellsSet : Said → Answering → Given → ClientAnswer → Type 0
+TellsSet said by g answer = IsReport by g answer
+    ⊎ ((told : Told) × IsResponse by g told answer × ((told.status ≡ TOO_BIG) ⊎ SaysOfSet said told.status))

@@ -27,7 +27,7 @@ use Rattle.snmp_gate.specs.Limits.{IsTriedFew, asks_since}
 use Rattle.snmp_gate.specs.Messages.{question_in}
 use Rattle.snmp_gate.specs.Noting.{AsksSet}
 use Rattle.snmp_gate.specs.Question.{Question}
-use Rattle.snmp_gate.specs.Replies.{Answering, SameAgent}
+use Rattle.snmp_gate.specs.Replies.{Answering, SameAgent, answer_with}
 use Rattle.snmp_gate.specs.Sets.{IsKept, KeepsSets}
 use Rattle.snmp_gate.specs.Time.{times_asked}
 use Rattle.snmp_gate.specs.Work.{EndingStands, TaskStands, request_of_task}
@@ -196,7 +196,7 @@ ClientHappens old now before from datagram (client.Joins n) new = Accepts old no
 ClientHappens old now before from datagram _ new = GateStands now before new
 
 abbrev pub DeviceHappens : Gate → ℕ → List Happening → ℕ → List ℕ → DeviceTaken → Gate → Type 0
-DeviceHappens old now before number datagram (device.Answers n) new =
+DeviceHappens old now before number datagram (device.Answers n fault) new =
     (p : PduParts) × Happens old now before (answered n number p datagram) new
 DeviceHappens old now before number datagram _ new = GateStands now before new
 
@@ -220,8 +220,8 @@ IsIdFrom old before number device from id = IsNextFree (slice_index_or (asks_in 
     × (open_ask number before ≡ Some (record { device = device; id = id; request = request })))
 
 abbrev pub SendHappens : Gate → ℕ → List Happening → Fresh → Sent → Gate → Type 0
-SendHappens old now before f (out.ToClient number to datagram) new = (m : WaitingMessage) × (to ≡ m.client)
-    × Happens old now before (sent number m (answering_at old now f.salt) datagram.items) new
+SendHappens old now before f (out.ToClient number to says datagram) new = (m : WaitingMessage) × (to ≡ m.client)
+    × Happens old now before (sent number m (answering_at old now f.salt) (answer_with says datagram)) new
 SendHappens old now before f (out.ToDevice number to datagram) new = (id : ℕ) × (request : RequestPdu)
     × IsIdFrom old before number to f.ask_id id
     × Happens old now before (asked number to id request datagram.items) new

@@ -8,11 +8,13 @@ use crate::asks::DeviceAsks;
 use crate::devices::{Device, Devices};
 use crate::limits::GateLimits;
 use crate::requests::WaitingRequests;
+use crate::set_answer::ResponseStatus;
 use crate::sets::RememberedSets;
 use crate::waiting_message::WaitingMessage;
 use crate::work::Work;
 use snmp_agent::{Agent, Refused};
 use snmp_msg::Refusal;
+use snmp_walk::AnswerFault;
 use std::alloc::{AllocError, Global};
 
 /// What becomes of a datagram from a client.
@@ -37,19 +39,26 @@ pub enum DeviceTaken {
     Unreadable,
     /// The device wasn't asked with this request-id and this community, or was answered.
     NotWaitedFor,
-    /// It is the answer to what was asked for the request with this number.
-    Answers(u64),
+    /// It is the answer to what was asked for a request.
+    Answers {
+        /// The number of the request.
+        number: u64,
+        /// Why its bindings don't answer what was asked, if they don't. An answer with an error isn't looked at so.
+        fault: Option<AnswerFault>,
+    },
 }
 
 /// What goes out.
 #[derive(Drop)]
 pub enum Sent {
-    /// A datagram to a client: the Response to a message of the request with this number, or the report on it.
+    /// A datagram to a client: the Response to a message of the request with this number, or the Report on it.
     ToClient {
         /// The number of the request.
         number: u64,
         /// The address of the client.
         client: Vec<u8>,
+        /// The error-status and the error-index of the Response. None: the datagram is a Report.
+        says: Option<ResponseStatus>,
         datagram: Vec<u8>,
     },
     /// A datagram to a device, for the request with this number.

@@ -14,7 +14,7 @@ ghost use Rattle.snmp_gate.specs.History.{Happening, sent, told_in, waiting_in};
 ghost use Rattle.snmp_gate.specs.Lawful.{AreLawful, WasAsked};
 ghost use Rattle.snmp_gate.specs.Messages.{question_in, seen_in};
 ghost use Rattle.snmp_gate.specs.Question.{Question};
-ghost use Rattle.snmp_gate.specs.Replies.{Answering};
+ghost use Rattle.snmp_gate.specs.Replies.{Answering, ClientAnswer};
 ghost use Rattle.snmp_gate.specs.Said.{AreTrue};
 ghost use Rattle.snmp_gate.specs.Through.{TellsDevice, TellsSet};
 ghost use Rattle.snmp_msg.specs.PduTypes.{pdu_tag};
@@ -126,10 +126,10 @@ pub fn a_gateway_mediates()
 /// what they answer, changes nothing.
 pub fn a_client_sees_the_device()
     ensures { (agent : AgentState) (devices : List Device) (before : List Happening) (number : ℕ)
-        (message : WaitingMessage) (by : Answering) (datagram : List ℕ) (device : Known) (q : Question)
-        → AreLawful agent devices (sent number message by datagram ∷ before)
+        (message : WaitingMessage) (by : Answering) (answer : ClientAnswer) (device : Known) (q : Question)
+        → AreLawful agent devices (sent number message by answer ∷ before)
         → question_in message ≡ Some q → IsDevice device → AreTrue device (told_in number before)
-        → TellsDevice device (seen_in agent.tables q) by q message.kept datagram }
+        → TellsDevice device (seen_in agent.tables q) by q message.kept answer }
 {}
 
 /// In a lawful history of a gateway whose device was asked a Set: the Response to it has the error-status that the
@@ -138,10 +138,10 @@ pub fn a_client_sees_the_device()
 /// what it had (`a_set_goes_out_once`).
 pub fn a_set_is_told_as_its_device_answered()
     ensures { (agent : AgentState) (devices : List Device) (before : List Happening) (number : ℕ)
-        (message : WaitingMessage) (by : Answering) (datagram : List ℕ) (q : Question)
-        → AreLawful agent devices (sent number message by datagram ∷ before)
+        (message : WaitingMessage) (by : Answering) (answer : ClientAnswer) (q : Question)
+        → AreLawful agent devices (sent number message by answer ∷ before)
         → question_in message ≡ Some q → q.tag ≡ pdu_tag SetRequest → WasAsked before number
-        → TellsSet (told_in number before) by message.kept datagram }
+        → TellsSet (told_in number before) by message.kept answer }
 {}
 
 /// In a lawful history of a gateway the messages of each request end in the order in which they came: those that were

@@ -197,9 +197,16 @@ fn sent_by(number: u64, client: Vec<u8>, reply: Reply) -> Sent
     ensures something { result ≢ Sent.Nothing }
 {
     match reply {
-        Reply::Sends(datagram) => Sent::ToClient {
+        Reply::Responds { says, datagram } => Sent::ToClient {
             number,
             client,
+            says: Some(says),
+            datagram,
+        },
+        Reply::Reports(datagram) => Sent::ToClient {
+            number,
+            client,
+            says: None,
             datagram,
         },
         Reply::Nothing | Reply::SilentDrop => Sent::Unanswered { number, why: None },

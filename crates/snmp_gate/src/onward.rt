@@ -2,7 +2,9 @@
 
 ghost use Rattle.std.specs.Prelude.{◌≡◌, ◌≢◌, List, IfOk, OnErr};
 ghost use Rattle.vacm_core.specs.Tables.{Tables};
+ghost use Rattle.snmp_msg.specs.Pdu.{pdu_of};
 ghost use Rattle.snmp_msg.specs.Variables.{Variable};
+ghost use Rattle.snmp_responder.specs.Code.{seen_by};
 ghost use Rattle.snmp_walk.specs.ObjectIds.{AllNamed, BulkAllNamed};
 ghost use Rattle.snmp_gate.specs.Question.{Question};
 ghost use Rattle.snmp_gate.specs.Messages.{IsViewerOf};
@@ -12,6 +14,7 @@ ghost use Rattle.snmp_gate.specs.Work.{AsksNoSet, BulkAskStands, BulkStandsFor, 
 ghost use Rattle.snmp_gate.specs.Work.{TaskHas};
 ghost use Rattle.snmp_gate.specs.declared.set_answer.ResponseStatus.{ResponseStatus as Says};
 ghost use Rattle.snmp_gate.specs.Ends.{IsEndFor, IsFailing, FailsOrGoesOn};
+ghost use Rattle.snmp_gate.specs.Fits.{BulkFits, ReadFits, fault_of};
 ghost use Rattle.snmp_gate.specs.Taking.{BulkSaysSame};
 ghost use Rattle.snmp_gate.specs.Said.{Said};
 
@@ -23,8 +26,8 @@ use crate::work::RequestEnd;
 use snmp_msg::Pdu;
 use snmp_responder::Viewer;
 use snmp_walk::{
-    Answered, BulkAnswered, BulkDialogue, BulkNext, Dialogue, Failure, FailureStatus, Next,
-    ReadOperation,
+    AnswerFault, Answered, BulkAnswered, BulkDialogue, BulkNext, Dialogue, Failure, FailureStatus,
+    Next, ReadOperation,
 };
 use std::alloc::{AllocError, Global};
 
@@ -49,6 +52,18 @@ pub enum AnswerTaken {
     Front,
     /// The Response has this status.
     Ends(ResponseStatus),
+    /// Its bindings don't answer what was asked. The Response has genErr.
+    Unfit(AnswerFault),
+}
+
+/// Returns why an answer's bindings don't answer what was asked, if they don't.
+pub(crate) fn fault_in(taken: AnswerTaken) -> Option<AnswerFault>
+    ensures { result ≡ fault_of taken }
+{
+    match taken {
+        AnswerTaken::Unfit(fault) => Some(fault),
+        AnswerTaken::GoesOn | AnswerTaken::Front | AnswerTaken::Ends(_) => None,
+    }
 }
 
 /// Returns the error-index of a column, which counts from 1, or 0 for none.
@@ -138,11 +153,12 @@ pub(crate) fn take_read(
         → SaysAll (read_request operation dialogue.old) answer.now told
         → ReadStands tables q told operation dialogue.old → ReadStands tables q told operation dialogue.new) }
     ensures fails { IfOk result FailsOrGoesOn }
+    ensures fits { IfOk result (λ taken. ReadFits dialogue.old (pdu_of answer.now) (fault_of taken)) }
     ensures err { OnErr result (dialogue.new ≡ dialogue.old) }
 {
     match dialogue.take(alloc, viewer, answer)? {
         Answered::Taken | Answered::Ended(_) => Ok(AnswerTaken::GoesOn),
-        Answered::Unfit(_) => Ok(AnswerTaken::Ends(gen_err(None))),
+        Answered::Unfit(fault) => Ok(AnswerTaken::Unfit(fault)),
         Answered::Failed(failure) => Ok(AnswerTaken::Ends(status_of(failure))),
     }
 }
@@ -160,6 +176,8 @@ pub(crate) fn take_bulk(
         → SaysAll (bulk_request_by by dialogue.old) answer.now told
         → BulkAskStands tables q told by dialogue.old → BulkStandsFor tables q told dialogue.new) }
     ensures fails { IfOk result FailsOrGoesOn }
+    ensures fits { IfOk result (λ taken.
+        BulkFits (seen_by viewer.now) dialogue.old (pdu_of answer.now) (fault_of taken)) }
     ensures err { OnErr result (BulkSaysSame dialogue.old dialogue.new) }
 {
     match dialogue.take(alloc, viewer, answer)? {
@@ -167,7 +185,7 @@ pub(crate) fn take_bulk(
             Ok(AnswerTaken::GoesOn)
         }
         BulkAnswered::Front => Ok(AnswerTaken::Front),
-        BulkAnswered::Unfit(_) => Ok(AnswerTaken::Ends(gen_err(None))),
+        BulkAnswered::Unfit(fault) => Ok(AnswerTaken::Unfit(fault)),
         BulkAnswered::TooBig => Ok(AnswerTaken::Ends(ResponseStatus {
             status: TOO_BIG,
             index: 0,
@@ -206,6 +224,7 @@ pub(crate) fn after(named: NamedTask, taken: AnswerTaken, viewer: &Viewer<'_>, l
 {
     match taken {
         AnswerTaken::Ends(status) => Onward::Ends(RequestEnd::Own(status)),
+        AnswerTaken::Unfit(_) => Onward::Ends(RequestEnd::Own(gen_err(None))),
         AnswerTaken::Front => after_task(named, true, viewer, late),
         AnswerTaken::GoesOn => after_task(named, false, viewer, late),
     }

@@ -31,6 +31,12 @@ use std::alloc::{AllocError, Global};
 /// The longest Response without authentication, in octets, to a request of half of it at most.
 pub const SHORT_ANSWER: usize = 1_472;
 
+/// noError.
+const WITHOUT_ERROR: ResponseStatus = ResponseStatus {
+    status: NO_ERROR,
+    index: 0,
+};
+
 /// genErr, where a binding can't be written.
 const UNWRITTEN: ResponseStatus = ResponseStatus {
     status: GEN_ERR,
@@ -40,8 +46,13 @@ const UNWRITTEN: ResponseStatus = ResponseStatus {
 /// What becomes of a message at its end.
 #[derive(Drop)]
 pub enum Reply {
-    /// This datagram goes to the client.
-    Sends(Vec<u8>),
+    /// This datagram goes to the client: the Response with this error-status and error-index.
+    Responds {
+        says: ResponseStatus,
+        datagram: Vec<u8>,
+    },
+    /// This datagram goes to the client: a Report.
+    Reports(Vec<u8>),
     /// Nothing is sent.
     Nothing,
     /// Even the Response without bindings is too long: the request is counted in snmpSilentDrops.
@@ -90,8 +101,12 @@ fn reply_without(
     }
     let none: [Binding<'_>; 0] = [];
     let (now, limit) = (sealing.seconds, sealing.limit);
+    let says = ResponseStatus {
+        status: TOO_BIG,
+        index: 0,
+    };
     match agent.respond_within(now, taken, TOO_BIG, 0, &none, sealing.salt, limit) {
-        Ok(datagram) => Ok(Reply::Sends(datagram)),
+        Ok(datagram) => Ok(Reply::Responds { says, datagram }),
         Err(refused) if refused.is_memory() => Err(AllocError),
         Err(_) => {
             agent.silent_drop();
@@ -104,20 +119,19 @@ fn reply_without(
 fn reply_with<B: Spelled>(
     agent: &mut Agent,
     taken: &Taken<'_>,
-    status: i32,
-    index: i32,
+    says: ResponseStatus,
     bindings: &[B],
     sealing: &Sealing,
 ) -> Result<Reply, AllocError>
     requires { All (λ b. B.fits b) bindings.now }
     ensures sent { IfOk result (IsSentOr (answering agent.old sealing.now) (given_of taken.now)
-        (told_with status index (map B.says bindings.now))) }
+        (told_with says (map B.says bindings.now))) }
     ensures same { SameAgent agent.old agent.new }
     ensures err { OnErr result (agent.new ≡ agent.old) }
 {
     let (now, salt, limit) = (sealing.seconds, sealing.salt, sealing.limit);
-    match agent.respond_within_of(now, taken, status, index, bindings, salt, limit) {
-        Ok(datagram) => Ok(Reply::Sends(datagram)),
+    match agent.respond_within_of(now, taken, says.status, says.index, bindings, salt, limit) {
+        Ok(datagram) => Ok(Reply::Responds { says, datagram }),
         Err(refused) => reply_without(agent, taken, refused, sealing),
     }
 }
@@ -137,7 +151,10 @@ fn reply_front(
 {
     let (now, salt, limit) = (sealing.seconds, sealing.salt, sealing.limit);
     match agent.respond_front(now, taken, NO_ERROR, 0, bindings, salt, limit) {
-        Ok(fronted) => Ok(Reply::Sends(fronted.text)),
+        Ok(fronted) => Ok(Reply::Responds {
+            says: WITHOUT_ERROR,
+            datagram: fronted.text,
+        }),
         Err(refused) => reply_without(agent, taken, refused, sealing),
     }
 }
@@ -175,7 +192,7 @@ fn reply_own(
     ensures err { OnErr result (agent.new ≡ agent.old) }
 {
     let bindings = own_bindings(alloc, taken, says.status)?;
-    reply_with(agent, taken, says.status, says.index, &bindings, sealing)
+    reply_with(agent, taken, says, &bindings, sealing)
 }
 
 /// Returns what becomes of a message that no application answers.
@@ -193,7 +210,7 @@ fn reply_unhandled(
     let _scoped = taken.scoped();
     let _pdu = taken.pdu();
     match agent.refuse(sealing.seconds, taken, why, sealing.salt) {
-        Ok(Some(report)) => Ok(Reply::Sends(report)),
+        Ok(Some(report)) => Ok(Reply::Reports(report)),
         Ok(None) => Ok(Reply::Nothing),
         Err(refused) if refused.is_memory() => Err(AllocError),
         Err(refused) => Ok(Reply::Refused(refused.refusal)),
@@ -239,7 +256,7 @@ fn reply_columns(
     if !can_be_written(&bindings) {
         return reply_own(alloc, agent, taken, UNWRITTEN, sealing);
     }
-    reply_with(agent, taken, NO_ERROR, 0, &bindings, sealing)
+    reply_with(agent, taken, WITHOUT_ERROR, &bindings, sealing)
 }
 
 /// Returns what becomes of a message that gets the front of what a GetBulkRequest asks for.

@@ -5,10 +5,12 @@ ghost use Rattle.std.specs.Global.{Vec as VecOf};
 ghost use Rattle.std.specs.List.{HoldsAt};
 ghost use Rattle.vacm_core.specs.Tables.{Tables};
 ghost use Rattle.snmp_msg.specs.Variables.{Variable};
-ghost use Rattle.snmp_msg.specs.Pdu.{PduParts};
+ghost use Rattle.snmp_msg.specs.Pdu.{PduParts, pdu_of};
+ghost use Rattle.snmp_responder.specs.Code.{seen_by};
 ghost use Rattle.snmp_gate.specs.DeviceMessages.{IsDeviceAnswer};
 ghost use Rattle.snmp_gate.specs.Question.{Question};
-ghost use Rattle.snmp_gate.specs.Messages.{IsViewerOf, question_in};
+ghost use Rattle.snmp_gate.specs.Fits.{IsFitTold, TaskFits, WorkFits, fault_of};
+ghost use Rattle.snmp_gate.specs.Messages.{IsViewerOf, question_in, seen_in};
 ghost use Rattle.snmp_gate.specs.Ends.{EndsSet, IsEndFor};
 ghost use Rattle.snmp_gate.specs.declared.set_answer.ResponseStatus.{ResponseStatus as Says};
 ghost use Rattle.snmp_gate.specs.declared.task.Task.TheVariants as TaskIs;
@@ -27,7 +29,7 @@ use crate::device_answer::{DeviceAnswer, read_device_answer};
 use crate::devices::Device;
 use crate::gate::{DeviceTaken, Gate};
 use crate::named_task::NamedTask;
-use crate::onward::{AnswerTaken, Onward, after, take_bulk, take_read};
+use crate::onward::{AnswerTaken, Onward, after, fault_in, take_bulk, take_read};
 use crate::requests::WaitingRequest;
 use crate::set_answer::set_outcome;
 use crate::task::Task;
@@ -36,6 +38,7 @@ use crate::waiting_message::WaitingMessage;
 use crate::work::{OpenRequest, RequestEnd, Work};
 use snmp_msg::Pdu;
 use snmp_responder::Viewer;
+use snmp_walk::AnswerFault;
 use std::alloc::{AllocError, Global};
 use std::mem;
 use vacm_core::Vacm;
@@ -61,6 +64,8 @@ fn take_task(
         → TaskStands tables q told named.old.task
         → TaskHas tables q told named.new.task × IsEndFor q told taken) }
     ensures set { IfOk result (λ taken. named.old.task ≡ TaskIs.Set → EndsSet answer.now taken) }
+    ensures fits { IfOk result (λ taken.
+        TaskFits (seen_by viewer.now) named.old.task (pdu_of answer.now) (fault_of taken)) }
     ensures err { OnErr result (TaskSaysSame named.old.task named.new.task) }
 {
     match &mut named.task {
@@ -138,6 +143,8 @@ fn take_open(
     ensures device { waiting.new.device ≡ waiting.old.device }
     ensures timer { waiting.new.timer ≡ waiting.old.timer }
     ensures set { IfOk result (λ taken. waiting.old.task.task ≡ TaskIs.Set → EndsSet answer.now taken) }
+    ensures fits { IfOk result (λ taken. (q : Question) → question_in message.now ≡ Some q
+        → TaskFits (seen_in tables.now q) waiting.old.task.task (pdu_of answer.now) (fault_of taken)) }
     ensures err { OnErr result (OpenSaysSame waiting.old waiting.new) }
 {
     let taken = message.kept.taken();
@@ -174,7 +181,8 @@ fn after_answer(
     }
 }
 
-/// Takes the device's answer for a request of this message. The error is out of memory, and nothing changes.
+/// Takes the device's answer for a request of this message, and returns why its bindings don't answer what was asked,
+/// if they don't. The error is out of memory, and nothing changes.
 fn take_answer(
     alloc: Global,
     work: &mut Work,
@@ -182,7 +190,7 @@ fn take_answer(
     tables: &Vacm,
     answer: &Pdu<'_>,
     lateness: Lateness,
-) -> Result<(), AllocError>
+) -> Result<Option<AnswerFault>, AllocError>
     ensures after { IfOk result (λ _. (o : OpenIs) (q : Question) (told : Said)
         → question_in message.now ≡ Some q → work.old ≡ Open o
         → SaysAll (request_of_task q o.task.task) answer.now told
@@ -190,15 +198,17 @@ fn take_answer(
     ensures no_set { IfOk result (λ _. ¬ AsksSet work.new) }
     ensures fresh { IfOk result (λ _. IsFresh work.new) }
     ensures set { IfOk result (λ _. AsksSet work.old → EndsAsSaid answer.now work.new) }
+    ensures fits { IfOk result (λ fault. (q : Question) → question_in message.now ≡ Some q
+        → WorkFits (seen_in tables.now q) work.old (pdu_of answer.now) fault) }
     ensures err { OnErr result (WorkSaysSame work.old work.new) }
 {
     let Work::Open(waiting) = work else {
-        return Ok(());
+        return Ok(None);
     };
     let became = take_open(alloc, waiting, message, tables, answer)?;
     let old = mem::replace(work, Work::Ends(RequestEnd::Silent));
     *work = after_answer(old, became, message, tables, lateness);
-    Ok(())
+    Ok(fault_in(became))
 }
 
 /// Returns the place of the request for which this device is asked with this request-id.
@@ -244,7 +254,7 @@ fn is_of(work: &Work, device: &Device, community: &[u8]) -> bool
 
 impl Gate {
     /// Takes a datagram from the device of this number, counted from 0, at this moment, in milliseconds. Nothing is
-    /// sent.
+    /// sent. Of an answer without an error whose bindings don't answer what was asked it says why (`fits`).
     ///
     /// The error is out of memory. Then the datagram isn't taken, and may be taken again.
     pub fn take_device(
@@ -256,6 +266,7 @@ impl Gate {
         ensures happens { IfOk result (λ taken. (since : ℕ) (before : List Happening) → since ≤ now
             → GateStands since before self.old
             → DeviceHappens self.old now before device datagram.now taken self.new) }
+        ensures fits { IfOk result (IsFitTold self.old device datagram.now) }
         ensures unreadable { IfOk result (λ taken. taken ≡ DeviceTaken.Unreadable
             → (community : List ℕ) (p : PduParts) → ¬ IsDeviceAnswer datagram.now community p) }
         ensures stays { Stays self.old self.new }
@@ -273,7 +284,7 @@ impl Gate {
         };
         let request = &mut self.requests.list[place];
         let number = request.number;
-        take_answer(
+        let fault = take_answer(
             self.alloc,
             &mut request.work,
             &request.first,
@@ -282,7 +293,7 @@ impl Gate {
             lateness,
         )?;
         self.asks[device].end(id);
-        Ok(DeviceTaken::Answers(number))
+        Ok(DeviceTaken::Answers { number, fault })
     }
 
     /// Returns the request-id of an answer, and the place of the request for which the device was asked with it.

@@ -16,7 +16,7 @@ use std::alloc::{AllocError, Global};
 /// Why an answer's bindings don't answer what was asked: the first of these from the left.
 #[derive(Clone, Copy, Debug, PartialEq, Eq)]
 pub enum AnswerFault {
-    /// It has fewer bindings than were asked.
+    /// It has fewer bindings than were asked. A GetBulkRequest leaves that to the device.
     TooFew,
     /// It has more bindings than were asked.
     TooMany,

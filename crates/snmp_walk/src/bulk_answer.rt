@@ -8,23 +8,12 @@ ghost use Rattle.snmp_walk.specs.BulkAnswer.{AllSaySame, IsBulkFault, IsRead, Is
 ghost use Rattle.snmp_walk.specs.BulkSteps.{Grows, IsBegun, IsForgotten, IsSettled};
 ghost use Rattle.snmp_walk.specs.Turns.{AreAsked, AreTurns, turns_left};
 
+use crate::answer::AnswerFault;
 use crate::bulk_column::BulkColumn;
-use crate::misfit::Misfit;
 use crate::turns::Turns;
 use snmp_msg::Pdu;
 use snmp_responder::Viewer;
 use std::alloc::{AllocError, Global};
-
-/// Why an answer's bindings don't answer a GetBulkRequest: the first of these from the left.
-#[derive(Clone, Copy, Debug, PartialEq, Eq)]
-pub enum BulkFault {
-    /// It has fewer bindings than were asked, by a GetNextRequest.
-    TooFew,
-    /// It has more bindings than were asked.
-    TooMany,
-    /// A binding of the column of this number, counted from 0, doesn't answer what was asked there.
-    AtColumn(usize, Misfit),
-}
 
 /// Begins to read an answer.
 fn begin_each(columns: &mut Vec<BulkColumn>)
@@ -60,7 +49,7 @@ fn read_each(
     viewer: &Viewer<'_>,
     answer: &Pdu<'_>,
     turns: &mut Turns,
-) -> Result<Option<BulkFault>, AllocError>
+) -> Result<Option<AnswerFault>, AllocError>
     requires { AreTurns columns.old.items (turns_left turns.old) }
     ensures grows { AllZip Grows columns.old.items columns.new.items }
     ensures reads { IfOk result (λ found. MatchOption found
@@ -69,13 +58,15 @@ fn read_each(
         (IsReadFault (seen_by viewer.now) false columns.old.items (turns_left turns.old)
         (variables_of answer.now.list.now))) }
 {
+    let mut place: usize = 0;
     for binding in answer.variable_bindings() {
         let Some(number) = turns.next() else {
-            return Ok(Some(BulkFault::TooMany));
+            return Ok(Some(AnswerFault::TooMany));
         };
         if let Some(misfit) = columns[number].read(alloc, viewer, &binding)? {
-            return Ok(Some(BulkFault::AtColumn(number, misfit)));
+            return Ok(Some(AnswerFault::AtBinding(place, misfit)));
         }
+        place = place.saturating_add(1);
     }
     Ok(None)
 }
@@ -88,7 +79,7 @@ fn read_turns(
     answer: &Pdu<'_>,
     turns: Turns,
     is_whole: bool,
-) -> Result<Option<BulkFault>, AllocError>
+) -> Result<Option<AnswerFault>, AllocError>
     requires { AreTurns columns.old.items (turns_left turns) }
     ensures grows { AllZip Grows columns.old.items columns.new.items }
     ensures reads { IfOk result (λ found. MatchOption found
@@ -106,7 +97,7 @@ fn read_turns(
         return Ok(None);
     }
     match turns.next() {
-        Some(_) => Ok(Some(BulkFault::TooFew)),
+        Some(_) => Ok(Some(AnswerFault::TooFew)),
         None => Ok(None),
     }
 }
@@ -121,7 +112,7 @@ pub(crate) fn read_answer(
     answer: &Pdu<'_>,
     turns: Turns,
     is_whole: bool,
-) -> Result<Option<BulkFault>, AllocError>
+) -> Result<Option<AnswerFault>, AllocError>
     requires { AreAsked columns.old.items (turns_left turns) }
     ensures reads { IfOk result (λ found. MatchOption found
         (IsRead (seen_by viewer.now) is_whole columns.old.items (turns_left turns)

@@ -17,7 +17,8 @@ ghost use Rattle.snmp_walk.specs.BulkSteps.{ColumnWaits};
 ghost use Rattle.snmp_walk.specs.Front.{IsFront, IsShownOf};
 ghost use Rattle.snmp_walk.specs.ObjectIds.{BulkAllNamed};
 
-use crate::bulk_answer::{BulkFault, read_answer};
+use crate::answer::AnswerFault;
+use crate::bulk_answer::read_answer;
 use crate::bulk_ask::{BulkAsk, ask_of, choose, count_asked, fewest};
 use crate::bulk_column::BulkColumn;
 use crate::dialogue::is_no_error;
@@ -59,7 +60,7 @@ pub enum BulkAnswered {
     /// Its bindings answer what was asked, and each column has its own.
     Taken,
     /// Its bindings don't answer what was asked. The Response has genErr.
-    Unfit(BulkFault),
+    Unfit(AnswerFault),
     /// The device can't answer so much: tooBig, or no bindings at all. It is to be asked for less.
     Less,
     /// It can't answer even for one name. The Response holds the front.

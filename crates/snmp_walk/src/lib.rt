@@ -162,7 +162,6 @@ mod place;
 mod turns;
 
 pub use answer::AnswerFault;
-pub use bulk_answer::BulkFault;
 pub use bulk_ask::BulkAsk;
 pub use bulk_column::BulkColumn;
 pub use bulk_dialogue::{BulkAnswered, BulkDialogue, BulkLimits, BulkNext};

@@ -1,6 +1,6 @@
 //! Gateways: users, tables, devices and limits, and what a gateway of them takes and sends.
 
-use crate::shown::{say_sent, say_taken};
+use crate::shown::{say_answer, say_sent, say_taken};
 use engine_clock::EngineId;
 use snmp_agent::Agent;
 use snmp_gate::{Device, Devices, Gate, GateLimits, Retries};
@@ -243,7 +243,7 @@ fn take_device(gate: &mut Gate, row: &mut Row<'_>) {
         taken = gate.take_device(now, device, datagram);
     }
     match taken {
-        Ok(taken) => row.say(format!(in row.alloc; "{taken:?}")),
+        Ok(taken) => say_answer(row, taken),
         Err(_) => row.lack(),
     }
 }

@@ -1,6 +1,6 @@
 //! What rows answer of a gateway.
 
-use snmp_gate::{ClientTaken, Sent};
+use snmp_gate::{ClientTaken, DeviceTaken, ResponseStatus, Sent};
 use snmp_msg::Refusal;
 use std::alloc::{AllocError, Global};
 use tests_messages::answers::refused_text;
@@ -26,6 +26,35 @@ fn taken_text(alloc: Global, taken: &ClientTaken) -> Result<String, AllocError> 
     }
 }
 
+/// Returns what became of a datagram from a device, and why an answer doesn't fit.
+fn answer_text(alloc: Global, taken: DeviceTaken) -> Result<String, AllocError> {
+    match taken {
+        DeviceTaken::Answers {
+            number,
+            fault: Some(fault),
+        } => format!(in alloc; "answers {number} {fault:?}"),
+        DeviceTaken::Answers {
+            number,
+            fault: None,
+        } => format!(in alloc; "answers {number}"),
+        DeviceTaken::NotWaitedFor => "not waited for".to_string(alloc),
+        DeviceTaken::Unreadable => "unreadable".to_string(alloc),
+    }
+}
+
+/// Answers what became of a datagram from a device.
+pub(crate) fn say_answer(row: &mut Row<'_>, taken: DeviceTaken) {
+    row.say(answer_text(row.alloc, taken));
+}
+
+/// What a Response says, or that it is a Report.
+fn says_text(alloc: Global, says: Option<ResponseStatus>) -> Result<String, AllocError> {
+    match says {
+        Some(says) => format!(in alloc; "{} {}", says.status, says.index),
+        None => "report".to_string(alloc),
+    }
+}
+
 /// Answers what became of a datagram from a client.
 pub(crate) fn say_taken(row: &mut Row<'_>, taken: &ClientTaken) {
     row.say(taken_text(row.alloc, taken));
@@ -45,8 +74,16 @@ fn sent_text(alloc: Global, sent: &Sent) -> Result<String, AllocError> {
         Sent::ToClient {
             number,
             client,
+            says,
             datagram,
-        } => format!(in alloc; "to client {number} {} {}", Text(client), Hex(datagram)),
+        } => {
+            let said = says_text(alloc, *says)?;
+            format!(in alloc;
+                "to client {number} {} {said} {}",
+                Text(client),
+                Hex(datagram)
+            )
+        }
         Sent::ToDevice {
             number,
             device,

@@ -1,3 +1,6 @@
+use Rattle.std.proofs.Common.{subst}
+use Rattle.snmp_gate.specs.Ends.{IsEndFor}
+use Rattle.snmp_gate.proofs.Telling.{gen_err_told}
 use Rattle.snmp_gate.proofs.onward.after.Goals as goal
 
 pub returns-in-Front-clause-stands : goal.returns-in-Front-clause-stands
@@ -5,3 +8,6 @@ returns-in-Front-clause-stands c tables q told viewer ends stands = c.after_task
 
 pub returns-in-GoesOn-clause-stands : goal.returns-in-GoesOn-clause-stands
 returns-in-GoesOn-clause-stands c tables q told viewer ends stands = c.after_task-in-GoesOn.ensures.stands tables q told viewer stands
+
+pub returns-in-Unfit-clause-stands : goal.returns-in-Unfit-clause-stands
+returns-in-Unfit-clause-stands c tables q told viewer ends stands = gen_err_told q told c.gen_err.result c.gen_err.ensures (subst (IsEndFor q told) c.in-Unfit.is ends)

@@ -1,8 +1,4 @@
-use Rattle.std.proofs.Common.{◌∙◌}
-use Rattle.std.proofs.lemmas.Bool.{false≢true}
-use Rattle.std.proofs.lemmas.Bool.Decides.{Decides-int_eq}
-use Rattle.snmp_gate.specs.declared.set_answer.TheConstants.{GEN_ERR, NO_ERROR}
-use Rattle.snmp_gate.proofs.Telling.{no_bulk}
+use Rattle.snmp_gate.proofs.Telling.{gen_err_told, no_bulk}
 use Rattle.std.proofs.Common.{ℕ, subst, sym}
 use Rattle.snmp_responder.specs.Code.{seen_by}
 use Rattle.snmp_walk.specs.BulkAsk.{IsAskOf, repetitions_due}
@@ -36,7 +32,4 @@ returns-in-Ends-clause-stands c tables q told viewer stands =
     c.go_on.ensures.requests stands
 
 pub returns-in-RoundsUsedUp-clause-stands : goal.returns-in-RoundsUsedUp-clause-stands
-returns-in-RoundsUsedUp-clause-stands c tables q told viewer stands = record {
-  no_error = λ none. absurd (false≢true ((Decides-int_eq GEN_ERR NO_ERROR).1 (sym c.gen_err.ensures ∙ none)));
-  set = λ is_set. absurd (no_bulk q stands.tag is_set);
-}
+returns-in-RoundsUsedUp-clause-stands c tables q told viewer stands = gen_err_told q told c.gen_err.result c.gen_err.ensures (no_bulk q stands.tag)

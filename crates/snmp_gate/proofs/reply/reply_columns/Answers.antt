@@ -1,4 +1,4 @@
-use Rattle.std.proofs.Common.{ℕ, List, map, pos, refl, subst, sym}
+use Rattle.std.proofs.Common.{ℕ, List, map, refl, subst, sym}
 use Rattle.std.specs.List.{AllZip}
 use Rattle.snmp_msg.specs.Variables.{variable_of}
 use Rattle.snmp_msg.specs.declared.binding.Binding.{Binding}
@@ -6,7 +6,7 @@ use Rattle.snmp_incoming.specs.Answers.{given_of}
 use Rattle.snmp_responder.specs.declared.viewer.Viewer.{Viewer}
 use Rattle.snmp_walk.specs.Dialogue.{AllStand, IsShown, Shows}
 use Rattle.snmp_gate.specs.Messages.{IsViewerOf, seen_in}
-use Rattle.snmp_gate.specs.Replies.{IsSentOr, answering, told_with}
+use Rattle.snmp_gate.specs.Replies.{IsSentOr, answering, without_error}
 use Rattle.snmp_gate.proofs.Sending.{on_ok}
 use Rattle.snmp_gate.proofs.Standing.{from_seen, to_seen}
 use Rattle.snmp_gate.proofs.Telling.{columns_reply, no_read, unwritten}
@@ -23,7 +23,7 @@ returns-clause-sent c =
     let tables = c.args.agent.now.tables in
     let d = c.args.whole.now.dialogue in
     let bs = c.deref-2.result.now in
-    on_ok c.reply_with.result (IsSentOr a g (told_with (pos 0) (pos 0) (map variable_of bs))) _
+    on_ok c.reply_with.result (IsSentOr a g (without_error (map variable_of bs))) _
     (λ r sent client q said operation asked stands.
     let viewer : Viewer = record {
       vacm = record { ref_ptr = c.args.agent.ref_ptr; now = tables };

@@ -14,13 +14,10 @@ returns-clause-sent c =
     let g = given_of c.args.taken.now in
     let says = c.args.says in
     let vs = map bound_variable c.deref.result.now in
-    let status_fits : SFits w32 c.args.says.status = search rules in
-    let index_fits : SFits w32 c.args.says.index = search rules in
-    let status = to_z-of_z w32 c.args.says.status status_fits in
-    let index = to_z-of_z w32 c.args.says.index index_fits in
-    on_ok c.reply_with.result (IsSentOr a g (told_with (to_z w32 (of_z w32 says.status)) (to_z w32 (of_z w32 says.index)) vs)) _
+    let fits : SFits w32 says.status = search rules in
+    on_ok c.reply_with.result (IsSentOr a g (told_with says vs)) _
     (λ r sent client q said asked own. own_reply a c.args.agent.now.tables q said g says vs r own
     (subst (λ (bs : List VariableBinding). IsOwnList q says.status (map bound_variable bs)) (sym c.deref.ensures.value)
-    (subst (λ (n : ℤ). IsOwnList q n (map bound_variable c.in_ok-bindings.bindings.items)) status (c.in_ok-bindings.ensures.says client q asked)))
-    (subst (λ (n : ℤ). IsSentOr a g (told_with n says.index vs) r) status (subst (λ (n : ℤ). IsSentOr a g (told_with (to_z w32 (of_z w32 says.status)) n vs) r) index sent)))
+    (subst (λ (n : ℤ). IsOwnList q n (map bound_variable c.in_ok-bindings.bindings.items)) (to_z-of_z w32 says.status fits) (c.in_ok-bindings.ensures.says client q asked)))
+    sent)
     c.reply_with.ensures.sent

@@ -1,3 +1,4 @@
+use Rattle.std.proofs.Common.{refl}
 use Rattle.snmp_message.specs.Scoped.{contexts_of}
 use Rattle.snmp_incoming.specs.Answers.{given_of}
 use Rattle.snmp_msg.specs.Pdu.{pdu_of}
@@ -5,7 +6,8 @@ use Rattle.snmp_gate.proofs.Sending.{refused_same}
 use Rattle.snmp_gate.proofs.reply.reply_unhandled.Goals as goal
 
 pub returns-in-Ok-Some-clause-sent : goal.returns-in-Ok-Some-clause-sent
-returns-in-Ok-Some-clause-sent c contexts pdu front text = (c.args.why, c.refuse.new.self, rw c.in-Ok-Some.field-0-is at (c.in-Ok-Some.ensures.answer contexts pdu front text))
+returns-in-Ok-Some-clause-sent c =
+    ((λ contexts pdu front text. (c.args.why, c.refuse.new.self, rw c.in-Ok-Some.field-0-is at (c.in-Ok-Some.ensures.answer contexts pdu front text))), refl)
 
 pub returns-in-Ok-Some-clause-same : goal.returns-in-Ok-Some-clause-same
 returns-in-Ok-Some-clause-same c =

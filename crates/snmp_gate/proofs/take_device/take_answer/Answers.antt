@@ -1,6 +1,11 @@
-use Rattle.std.proofs.Common.{ap, subst, sym, ◌∙◌}
+use Rattle.std.proofs.Common.{ap, subst, sym, ◌∙◌, Option}
+use Rattle.snmp_msg.specs.Pdu.{pdu_of}
+use Rattle.snmp_walk.specs.declared.answer.AnswerFault.{AnswerFault}
+use Rattle.snmp_gate.specs.Fits.{TaskFits, WorkFits}
+use Rattle.snmp_gate.specs.Messages.{seen_in}
 use Rattle.snmp_gate.specs.Work.{SaysAll, TaskStands, request_of_task}
 use Rattle.snmp_gate.specs.declared.work.OpenRequest.{OpenRequest}
+use Rattle.snmp_gate.specs.declared.work.Work.{Work}
 use Rattle.snmp_gate.proofs.Endings.{after_same, one_open}
 use Rattle.snmp_gate.proofs.take_device.take_answer.Goals as goal
 
@@ -15,3 +20,10 @@ returns-clause-after c o q told asked is says stands =
     after_same tables q told new o c.after_answer.result (c.in_ok-became.ensures.device ∙ ap (λ (x : OpenRequest). x.device) same)
     (c.in_ok-became.ensures.timer ∙ ap (λ (x : OpenRequest). x.timer) same)
     (c.after_answer.ensures.after new q told asked c.replace-old.ensures.value took.1 took.0)
+
+pub returns-clause-fits : goal.returns-clause-fits
+returns-clause-fits c q asked =
+    let Seen = seen_in c.args.tables.now q in
+    let answer = pdu_of c.args.answer.now in
+    subst (λ (w : Work). WorkFits Seen w answer c.fault_in.result) (sym c.in-Open.is)
+    (subst (λ (fault : Option AnswerFault). TaskFits Seen c.in-Open.waiting.task.task answer fault) (sym c.fault_in.ensures) (c.in_ok-became.ensures.fits q asked))

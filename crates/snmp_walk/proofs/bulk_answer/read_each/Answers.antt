@@ -1,4 +1,4 @@
-use Rattle.std.proofs.Common.{sym, ap, subst, ◌∙◌, arith, append_assoc, List, ℕ, [], ◌∷◌, ◌++◌, Option, MatchOption}
+use Rattle.std.proofs.Common.{length-append, refl, sym, ap, subst, ◌∙◌, arith, append_assoc, List, ℕ, [], ◌∷◌, ◌++◌, Option, MatchOption}
 use Rattle.std.proofs.lemmas.List.Elements.{All-head, All-tail}
 use Rattle.snmp_msg.specs.Variables.{Variable, bound_variable, variables_left, variables_of}
 use Rattle.snmp_responder.specs.Code.{seen_by}
@@ -15,6 +15,7 @@ loop-binding-init c = record {
   ready = tt;
   ends = tt;
   done = [];
+  place_is = refl;
   joined = sym c.variable_bindings-binding-items.ensures.first ∙ ap variables_left (sym c.into_iter-binding-iterator.ensures.into_iter_gives);
   grows = all_grow_same c.args.columns.now.items;
   turns_on = c.requires;
@@ -91,7 +92,9 @@ returns-in-Some-2-clause-reads c =
     let refuses : ColumnRefuses column v misfit =
     subst (λ (found : Option Misfit). MatchOption found (ColumnReads seen column v c.read.new.self) (ColumnRefuses column v)) c.in-Some-2.is c.in_ok-misfit.ensures.reads in
     record {
+      number = number;
       before = inv.done;
+      place_is = inv.place_is;
       variable = v;
       after = variables_left c.next.new.self;
       are = inv.joined ∙ ap (λ (vs : List Variable). inv.done ++ vs) c.in-Some.ensures.steps;
@@ -122,6 +125,7 @@ loop-binding-preserved c =
       ready = tt;
       ends = tt;
       done = inv.done ++ v ∷ [];
+      place_is = omega (arith, inv.place_is, c.saturating_add-place.ensures, length-append inv.done (v ∷ []));
       joined = inv.joined ∙ ap (λ (vs : List Variable). inv.done ++ vs) c.in-Some.ensures.steps ∙ sym (append_assoc inv.done (v ∷ []) (variables_left c.next.new.self));
       grows = all_grow_on begun now number column new within inv.grows (subst (λ (x : BulkColumn). Grows x new) c.index_mut.ensures.value c.read.ensures.grows);
       turns_on = All-tail (IsTurnAt begun) number rest turns_on;

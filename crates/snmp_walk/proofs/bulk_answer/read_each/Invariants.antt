@@ -1,4 +1,4 @@
-use Rattle.std.proofs.Common.{◌≡◌, ◌++◌, List}
+use Rattle.std.proofs.Common.{◌≡◌, ◌-◌, ◌^◌, ◌++◌, List, length, min}
 use Rattle.std.specs.List.{AllZip}
 use Rattle.snmp_msg.specs.Variables.{Variable, variables_of, variables_left}
 use Rattle.snmp_responder.specs.Code.{seen_by}
@@ -13,6 +13,7 @@ invariant-loop-binding l = record {
   ends : (goal.iterator-loop-binding).is_finite l.binding-iterator;
   done : List Variable;
   joined : variables_of l.answer.list.now ≡ done ++ variables_left l.binding-iterator;
+  place_is : l.place ≡ min (length done) (2 ^ 64 - 1);
   grows : AllZip Grows l.initial.columns.items l.columns.items;
   turns_on : AreTurns l.initial.columns.items (turns_left l.turns);
   so_far : ReadSoFar (seen_by l.viewer) l.initial.columns.items (turns_left l.initial.turns) done (turns_left l.turns) l.columns.items;

@@ -3,7 +3,7 @@ use Rattle.snmp_msg.specs.Variables.{variables_of}
 use Rattle.snmp_responder.specs.Code.{seen_by}
 use Rattle.snmp_walk.specs.BulkAnswer.{IsReadFault, ReadSoFar}
 use Rattle.snmp_walk.specs.Turns.{turns_left}
-use Rattle.snmp_walk.specs.declared.bulk_answer.BulkFault.{BulkFault}
+use Rattle.snmp_walk.specs.declared.answer.AnswerFault.{AnswerFault}
 use Rattle.snmp_walk.proofs.BulkReads.{too_few_read}
 use Rattle.snmp_walk.proofs.bulk_answer.read_turns.Goals as goal
 
@@ -15,6 +15,6 @@ returns-in-Some-next-clause-reads c =
     let vs = variables_of c.args.answer.now.list.now in
     let now = c.read_each.new.columns.items in
     let so_far : ReadSoFar seen begun ts vs (turns_left c.read_each.new.turns) now =
-    subst (λ (found : Option BulkFault). MatchOption found (ReadSoFar seen begun ts vs (turns_left c.read_each.new.turns) now) (IsReadFault seen false begun ts vs)) c.in_default.is c.in_ok-fault.ensures.reads in
+    subst (λ (found : Option AnswerFault). MatchOption found (ReadSoFar seen begun ts vs (turns_left c.read_each.new.turns) now) (IsReadFault seen false begun ts vs)) c.in_default.is c.in_ok-fault.ensures.reads in
     let whole : c.args.is_whole ≡ true = cc c.if-not-is_whole.false in
     (whole, too_few_read seen begun ts vs c.in-Some-next.field-0 (turns_left c.next.new.self) now (subst (λ (left : List ℕ). ReadSoFar seen begun ts vs left now) c.in-Some-next.ensures so_far))

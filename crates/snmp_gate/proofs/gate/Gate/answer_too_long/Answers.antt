@@ -35,7 +35,7 @@ too_long_stands g requests place was e ends next worked since now before later s
 
 -- what happens is the same, where only requests changed before
 send_same : (g : Gate) (requests : WaitingRequests WaitingMessage Work) (now : ℕ) (before : List Happening) (f : Fresh) (what : Sent) (new : Gate) → SendHappens (record g { requests = requests }) now before f what new → SendHappens g now before f what new
-send_same g requests now before f (out.ToClient n to w) new h = (h.0, h.1, record { lawful = h.2.lawful; tried = h.2.tried; stands = h.2.stands })
+send_same g requests now before f (out.ToClient n to says w) new h = (h.0, h.1, record { lawful = h.2.lawful; tried = h.2.tried; stands = h.2.stands })
 send_same g requests now before f (out.ToDevice n to w) new h = (h.0, h.1, h.2, record { lawful = h.3.lawful; tried = h.3.tried; stands = h.3.stands })
 send_same g requests now before f (out.Unanswered n why) new h = (h.0, record { lawful = h.1.lawful; tried = h.1.tried; stands = h.1.stands })
 send_same g requests now before f (out.GivenUp n to) new h = record { lawful = h.lawful; tried = h.tried; stands = h.stands }

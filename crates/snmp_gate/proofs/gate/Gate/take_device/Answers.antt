@@ -18,6 +18,9 @@ use Rattle.snmp_gate.proofs.Others.{chosen, open_other}
 use Rattle.snmp_gate.proofs.SetsGoing.{answered_sets, kept_stands}
 use Rattle.snmp_gate.proofs.Same.{same_messages}
 use Rattle.snmp_gate.proofs.Todos.{timely_set}
+use Rattle.std.proofs.lemmas.List.{get_or_default}
+use Rattle.snmp_gate.specs.Fits.{FitsRequest, WorkFits}
+use Rattle.snmp_gate.specs.Messages.{seen_in}
 use Rattle.snmp_gate.proofs.gate.Gate.take_device.Goals as goal
 
 pub returns-clause-happens : goal.returns-clause-happens
@@ -35,7 +38,7 @@ returns-clause-happens c since before later stands =
     at.id_is c.in-Some.ensures
     (subst (λ (x : WaitingRequest WaitingMessage Work). HoldsAt (λ (d : Device). IsCommunityOfWork d c.in-Some.answer.community.now x.work) g.devices.list.items c.args.device) (sym c.index_mut-request.ensures.value) (at.pays r))
     (λ o q told asked is says known. subst (λ (t : Tables). WorkAfter t q told o w) c.tables.ensures
-    (c.in_ok-take_answer.ensures.after o q told asked is says (subst (λ (t : Tables). TaskStands t q told o.task.task) (sym c.tables.ensures) known)))
+    (c.in_ok-fault.ensures.after o q told asked is says (subst (λ (t : Tables). TaskStands t q told o.task.task) (sym c.tables.ensures) known)))
     stands.requests in
     let now = answered r.number c.args.device (pdu_of c.in-Some.answer.pdu) c.args.datagram.now in
     let s : WaitingRequest WaitingMessage Work = record { number = r.number; first = r.first; others = r.others; work = w } in (
@@ -48,7 +51,7 @@ returns-clause-happens c since before later stands =
           asks = answered_asks now before r.number c.args.device id g.asks.items c.index_mut.result.now c.end.new.self c.end.result
               (chosen r.number None (open_ask r.number before)) (λ k other. open_other now before k other) c.in-Some-place_of.ensures.asks c.index_mut.ensures.value c.end.ensures.ended
               both.0.ask both.0.is_open both.0.device_is (same_id both.0.ask.id id (sym both.0.id_is ∙ at.id_is)) stands.asks;
-          sets = answered_sets since c.args.now r.number c.args.device (pdu_of c.in-Some.answer.pdu) c.args.datagram.now before rs place r s g.sets.sets.items later at.within c.index_mut-request.ensures.value refl c.in_ok-take_answer.ensures.no_set stands.sets;
+          sets = answered_sets since c.args.now r.number c.args.device (pdu_of c.in-Some.answer.pdu) c.args.datagram.now before rs place r s g.sets.sets.items later at.within c.index_mut-request.ensures.value refl c.in_ok-fault.ensures.no_set stands.sets;
         };
       },
     )
@@ -59,8 +62,8 @@ returns-in_default-clause-happens c = stands_later c.args.now c.args.self.now
 pub returns-in_default-place_of-clause-happens : goal.returns-in_default-place_of-clause-happens
 returns-in_default-place_of-clause-happens c = stands_later c.args.now c.args.self.now
 
-pub returns-in_err-take_answer-clause-err : goal.returns-in_err-take_answer-clause-err
-returns-in_err-take_answer-clause-err c =
+pub returns-in_err-fault-clause-err : goal.returns-in_err-fault-clause-err
+returns-in_err-fault-clause-err c =
     let g = c.args.self.now in
     let rs = g.requests.list.items in
     let place = c.in-Some-place_of.place in
@@ -75,7 +78,7 @@ returns-in_err-take_answer-clause-err c =
       messages = same_messages rs place r s c.in-Some-place_of.ensures.place.within c.index_mut-request.ensures.value refl;
       next = refl;
       sets = inl refl;
-      stands = kept_stands c.args.now g _ place r w refl refl refl refl refl refl c.in-Some-place_of.ensures.place.within c.index_mut-request.ensures.value c.in_err-take_answer.ensures.err;
+      stands = kept_stands c.args.now g _ place r w refl refl refl refl refl refl c.in-Some-place_of.ensures.place.within c.index_mut-request.ensures.value c.in_err-fault.ensures.err;
     })
 
 pub returns-clause-stays : goal.returns-clause-stays
@@ -90,11 +93,11 @@ returns-clause-stays c =
     let a = c.index_mut.result.now in
     stays_of g _ (agent_same g.agent g.agent refl) refl refl
     (bounded_set g.limits g.requests _ refl refl place r s within c.index_mut-request.ensures.value refl refl
-    (timely_set g.limits rs place r s within c.index_mut-request.ensures.value (λ was. fresh_timely g.limits w c.in_ok-take_answer.ensures.fresh)))
+    (timely_set g.limits rs place r s within c.index_mut-request.ensures.value (λ was. fresh_timely g.limits w c.in_ok-fault.ensures.fresh)))
     (asks_set g.devices.list.items g.asks.items c.args.device a c.end.new.self c.in-Some-place_of.ensures.asks c.index_mut.ensures.value c.end.ensures.at_once (ended_few a c.end.new.self c.in-Some-place_of.id c.end.result c.end.ensures.ended c.end.ensures.at_once))
 
-pub returns-in_err-take_answer-clause-stays : goal.returns-in_err-take_answer-clause-stays
-returns-in_err-take_answer-clause-stays c =
+pub returns-in_err-fault-clause-stays : goal.returns-in_err-fault-clause-stays
+returns-in_err-fault-clause-stays c =
     let g = c.args.self.now in
     let rs = g.requests.list.items in
     let place = c.in-Some-place_of.place in
@@ -104,4 +107,28 @@ returns-in_err-take_answer-clause-stays c =
     let within = c.in-Some-place_of.ensures.place.within in
     stays_requests g _ (agent_same g.agent g.agent refl) refl refl refl
     (bounded_set g.limits g.requests _ refl refl place r s within c.index_mut-request.ensures.value refl refl
-    (timely_set g.limits rs place r s within c.index_mut-request.ensures.value (same_timely g.limits r.work w c.in_err-take_answer.ensures.err)))
+    (timely_set g.limits rs place r s within c.index_mut-request.ensures.value (same_timely g.limits r.work w c.in_err-fault.ensures.err)))
+
+pub returns-clause-fits : goal.returns-clause-fits
+returns-clause-fits c =
+    let g = c.args.self.now in
+    let rs = g.requests.list.items in
+    let place = c.in-Some-place_of.place in
+    let id = c.in-Some-place_of.id in
+    let at = c.in-Some-place_of.ensures.place in
+    let r = c.index_mut-request.result.now in
+    let answer = pdu_of c.in-Some.answer.pdu in
+    let fault = c.in_ok-fault.fault in
+    let waits = subst (λ (x : WaitingRequest WaitingMessage Work). WaitsFor c.args.device id x.work) (sym c.index_mut-request.ensures.value) (at.waits r) in
+    let fits : FitsRequest g c.args.device id r.number answer fault r =
+    (refl, waits, λ q asked. subst (λ (t : Tables). WorkFits (seen_in t q) r.work answer fault) c.tables.ensures (c.in_ok-fault.ensures.fits q asked)) in
+    record {
+      community = c.in-Some.answer.community.now;
+      answer = answer;
+      is_answer = c.in-Some.ensures;
+      id = id;
+      id_is = at.id_is;
+      place = place;
+      within = at.within;
+      fits = λ d. subst (FitsRequest g c.args.device id r.number answer fault) (c.index_mut-request.ensures.value ∙ get_or_default rs place r d at.within) fits;
+    }
