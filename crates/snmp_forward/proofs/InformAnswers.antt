@@ -21,8 +21,9 @@ use Rattle.snmp_requests.specs.declared.device_request.Heard.TheVariants.{Respon
 use Rattle.snmp_requests.specs.declared.device_request.NextStep.{NextStep}
 use Rattle.snmp_requests.specs.declared.outstanding.OutstandingRequest.{OutstandingRequest}
 use Rattle.snmp_forward.specs.InformHistory.{Accepted, InformHappening, InformSetting, IsAccepted, IsInformLawful, answers, asked_with}
-use Rattle.snmp_forward.specs.InformStanding.{AnswerHappens, AnswersGiven, HeardHappens, HearsOf, InformHappens, InformsStand, IsAnswered, IsAt, IsForNone, IsSameElse, KeepsRequests, ReceiverHappens, holds, setting_of}
-use Rattle.snmp_forward.specs.WaitingInforms.{HasToken}
+use Rattle.snmp_forward.specs.InformStanding.{AnswerHappens, AnswersGiven, HeardHappens, HearsOf, InformHappens, InformsStand, IsAnswered, IsAt, IsForNone, IsSameElse, IsUnasked, KeepsRequests, ReceiverHappens, accepted_at, holds, setting_of}
+use Rattle.snmp_manager.specs.declared.pending.Pending.{Pending}
+use Rattle.snmp_forward.specs.WaitingInforms.{IsAsked}
 use Rattle.snmp_forward.specs.declared.informs.Informs.{Informs}
 use Rattle.snmp_forward.specs.declared.informs.ReceiverTaken.{ReceiverTaken}
 use Rattle.snmp_forward.specs.declared.informs.ReceiverTaken.TheVariants as taken
@@ -64,48 +65,63 @@ answered_of f before place w g told new c p stands at has is front pdu =
 abbrev pub with_requests : Informs → Outstanding → Informs
 with_requests f q = record { alloc = f.alloc; engine = f.engine; manager = f.manager; requests = q; list = f.list; next = f.next; most = f.most; limits = f.limits }
 
-given_as : (old new : Informs) (q : Outstanding) (before : List InformHappening) (g : Given) (b c : Bool) (n : ℕ) (Next : NextStep → Type 0) → b ≡ c → AnswersGiven (with_requests old q) before g b n Next new → AnswersGiven old before g c n Next new
-given_as old new q before g b c n Next same a = record {
+given_as : (old new : Informs) (q : Outstanding) (before : List InformHappening) (from receiver : ℕ) (g : Given) (b c : Bool) (n : ℕ) (Next : NextStep → Type 0) → from ≡ receiver → b ≡ c → AnswersGiven (with_requests old q) before from g b n Next new
+    → AnswersGiven old before receiver g c n Next new
+given_as old new q before from receiver g b c n Next one same a = record {
   heard = a.heard;
   clock = a.clock ∙ same;
   next = a.next;
-  happens = λ what whats accepted. let h = a.happens what whats accepted in record { lawful = h.lawful; stands = h.stands };
+  happens = λ what came whats accepted. let h = a.happens what (came ∙ sym one) whats accepted in record { lawful = h.lawful; stands = h.stands };
 }
 
-pub answer_as : (old new : Informs) (q : Outstanding) (before : List InformHappening) (g : Given) (b : Bool) (r : ReceiverTaken) → b ≡ holds old.manager g.engine → HeardHappens (with_requests old q) before g b r new → AnswerHappens old before g r new
-answer_as old new q before g b (taken.Refused why) same h = h
-answer_as old new q before g b taken.NoAnswer same h = absurd h
-answer_as old new q before g b (taken.Heard n) same h = given_as old new q before g b (holds old.manager g.engine) n _ same h
-answer_as old new q before g b (taken.Acknowledged n) same h = given_as old new q before g b (holds old.manager g.engine) n _ same h
-answer_as old new q before g b (taken.Denied n counter) same h = given_as old new q before g b (holds old.manager g.engine) n _ same h
+pub answer_as : (old new : Informs) (q : Outstanding) (before : List InformHappening) (from receiver : ℕ) (g : Given) (b : Bool) (r : ReceiverTaken) → from ≡ receiver → b ≡ holds old.manager g.engine → HeardHappens (with_requests old q) before from g b r new
+    → AnswerHappens old before receiver g r new
+answer_as old new q before from receiver g b (taken.Refused why) one same h = h
+answer_as old new q before from receiver g b taken.NoAnswer one same h = absurd h
+answer_as old new q before from receiver g b (taken.Heard n) one same h = given_as old new q before from receiver g b (holds old.manager g.engine) n _ one same h
+answer_as old new q before from receiver g b (taken.Acknowledged n) one same h = given_as old new q before from receiver g b (holds old.manager g.engine) n _ one same h
+answer_as old new q before from receiver g b (taken.Denied n counter) one same h = given_as old new q before from receiver g b (holds old.manager g.engine) n _ one same h
 
 -- ---- no answer
 
-pub none_told : (f : Informs) (g : Given) (new : Outstanding) → ((c : Contexts) (p : PduParts) → ScopedFront g.text c → PduText c.pdu p → TellsAnswered f.requests g c p None new) → IsForNone f g
-none_told f g new is c p front pdu k d short token r has there of = (is c p front pdu).0 (message_id_of token) r there
+pub none_told : (f : Informs) (receiver : ℕ) (g : Given) (new : Outstanding) → ((c : Contexts) (p : PduParts) → ScopedFront g.text c → PduText c.pdu p → TellsAnswered f.requests g c p None new) → IsForNone f receiver g
+none_told f receiver g new is c p front pdu k d short from token r has there of = (is c p front pdu).0 (message_id_of token) r there
 
-pub other_told : (f : Informs) (g : Given) (told : AnsweredRequest) (new : Outstanding) → IsToldOf f.requests g told new → All (λ (w : WaitingInform). ¬ HasToken told.token w) f.list.items → IsForNone f g
-other_told f g told new is none c p front pdu k d short token r has there of =
-    (is c p front pdu).0.alone (message_id_of token) r there (λ same. none k d short (has ∙ ap Some (sym of ∙ same)))
+pub other_told : (f : Informs) (receiver : ℕ) (g : Given) (told : AnsweredRequest) (new : Outstanding) → IsToldOf f.requests g told new → All (λ (w : WaitingInform). ¬ IsAsked receiver told.token w) f.list.items → IsForNone f receiver g
+other_told f receiver g told new is none c p front pdu k d short from token r has there of =
+    (is c p front pdu).0.alone (message_id_of token) r there (λ same. none k d short (record { to = from; token_is = has ∙ ap Some (sym of ∙ same) }))
+
+-- a message with another msgID is no answer to a request
+other_id : (a : Pending) (g : Given) (c : Contexts) (p : PduParts) → (a.id ≡ g.id → ⊥) → IsHeardOf a g c p None
+other_id a g c p other = ((λ response. other (sym response.id)), (λ report. other (sym report.0)))
+
+pub unasked_told : (f : Informs) (before : List InformHappening) (receiver : ℕ) (g : Given) → InformsStand before f → IsUnasked f receiver g.id → IsForNone f receiver g
+unasked_told f before receiver g stands none c p front pdu k d short from token r has there of =
+    other_id r.pending g c p (λ same. none k d short (record {
+      to = from;
+      token = token;
+      token_is = has;
+      id_is = sym (((stands.all k d short).waits token has).id r there of) ∙ same;
+    }))
 
 -- ---- with what the manager has learned
 
 abbrev setting_with : Informs → List User → InformSetting
 setting_with f users = record { limits = f.limits; users = users; own = f.engine }
 
-module _ (old new : Informs) (held : Held) (before : List InformHappening) (now : ℕ) (datagram : List ℕ) (g : Given) (takes : Takes old.manager (now / 1000) datagram (Some (Ok g)) held) (same : new.manager ≡ held) where
+module _ (old new : Informs) (held : Held) (before : List InformHappening) (now receiver : ℕ) (datagram : List ℕ) (g : Given) (takes : Takes old.manager (now / 1000) datagram (Some (Ok g)) held) (same : new.manager ≡ held) where
   takes_on : Takes old.manager (now / 1000) datagram (Some (Ok g)) new.manager
   takes_on = subst (λ (h : Held). Takes old.manager (now / 1000) datagram (Some (Ok g)) h) (sym same) takes
 
   abbrev accepted_now : Accepted
-  accepted_now = record { held = new.manager; seconds = now / 1000; datagram = datagram; given = g }
+  accepted_now = accepted_at new.manager now receiver datagram g
 
   is_accepted : IsAccepted held.users accepted_now
   is_accepted = subst (λ (users : List User). Outcome (as_manager new.manager.clocks) users (now / 1000) datagram (Ok g)) (sym takes.0) takes_on.2
 
-  hears_of : (n : ℕ) (Next : NextStep → Type 0) → AnswersGiven (with_manager old held) before g (holds held g.engine) n Next new → HearsOf old before now datagram n Next new
+  hears_of : (n : ℕ) (Next : NextStep → Type 0) → AnswersGiven (with_manager old held) before receiver g (holds held g.engine) n Next new → HearsOf old before now receiver datagram n Next new
   hears_of n Next a =
-      let h = a.happens accepted_now refl is_accepted in record {
+      let h = a.happens accepted_now refl refl is_accepted in record {
         given = g;
         takes = takes_on;
         heard = a.heard;
@@ -117,9 +133,9 @@ module _ (old new : Informs) (held : Held) (before : List InformHappening) (now 
         };
       }
 
-  pub receives : (r : ReceiverTaken) → AnswerHappens (with_manager old held) before g r new → ReceiverHappens old before now datagram r new
+  pub receives : (r : ReceiverTaken) → AnswerHappens (with_manager old held) before receiver g r new → ReceiverHappens old before now receiver datagram r new
   receives (taken.Refused why) h = absurd h
-  receives taken.NoAnswer h = ((g, takes_on, h.0), record { list = h.1.list; stands = h.1.stands })
+  receives taken.NoAnswer h = (g, takes_on, record { none = h.none; still = record { list = h.still.list; stands = h.still.stands }; requests = h.requests })
   receives (taken.Heard n) h = hears_of n _ h
   receives (taken.Acknowledged n) h = hears_of n _ h
   receives (taken.Denied n counter) h = hears_of n _ h

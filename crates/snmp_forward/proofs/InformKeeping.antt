@@ -196,6 +196,7 @@ module _ (limits : InformLimits) where
             is_asked = ap (λ (k : InformKnown). k.asked) known ∙ own.is_asked;
             is_sent = own.is_sent;
           };
+          id = λ r there of. wait.id r (keeps.same token r wait.given there of) of;
         };
       }
 
@@ -207,6 +208,7 @@ module _ (limits : InformLimits) where
     waits = λ token is. let wait = stands.waits token is in record {
       given = omega (arith, wait.given, keeps.later);
       own = λ r there of. wait.own r (keeps.same token r wait.given there of) of;
+      id = λ r there of. wait.id r (keeps.same token r wait.given there of) of;
     };
   }
 

@@ -18,7 +18,7 @@ use Rattle.snmp_forward.specs.Exchange.{HearsAnswer}
 use Rattle.snmp_forward.specs.ExchangeRuns.{ExchangeStep, IsExchangeRun, hears, sends, times_tried}
 use Rattle.snmp_forward.specs.InformHistory.{Accepted, AreInformsLawful, Asked, InformEnd, InformHappening, InformKnown, InformSetting, IsAnswer, IsHeardIn, IsInformLawful, answers, asked_with, asks, begins, ends, inform_of, is_end, known_after, known_of, refused}
 use Rattle.snmp_forward.specs.InformRuns.{answered_by, InformEvent, IsInformHistoryOf, IsInformRun, IsOwnResponse, acknowledged, answered_in, asked_in, begun_in, comes, finds_no_memory, goes_out, informs_of, is_ended, receives, times_ended, went_out}
-use Rattle.snmp_forward.specs.InformStanding.{AreAsBefore, InformHappens, InformSendHappens, InformsStand, InformsStay, IsGoingOn, KeepsRequests, ReceiverHappens, setting_of}
+use Rattle.snmp_forward.specs.InformStanding.{AreAsBefore, InformHappens, InformSendHappens, InformsStand, InformsStay, IsGoingOn, KeepsRequests, ReceiverHappens, accepted_at, setting_of}
 use Rattle.snmp_forward.specs.declared.exchange.InformExchange.{InformExchange}
 use Rattle.snmp_forward.specs.declared.inform.Inform.{Inform}
 use Rattle.snmp_forward.specs.declared.informs.InformSent.{InformSent}
@@ -35,10 +35,13 @@ use Rattle.snmp_forward.proofs.Keeping.{other}
 some_one : (a b : SentMessage) → Some a ≡ Some b → a ≡ b
 some_one a b e = cc e
 
-pub own_response : (s : InformSetting) (before : List InformHappening) (n : ℕ) (what : Accepted) (heard : HearStep) → IsAnswer s before n what heard → heard.turn ≡ Answered → IsOwnResponse before n what.given
+pub own_response : (s : InformSetting) (before : List InformHappening) (n : ℕ) (what : Accepted) (heard : HearStep) → IsAnswer s before n what heard → heard.turn ≡ Answered → IsOwnResponse before n what
 own_response s before n what heard is ended =
     let hears : Hears is.at.request heard.heard heard.holds_clock Answered is.next.request = subst (λ (t : NextStep). Hears is.at.request heard.heard heard.holds_clock t is.next.request) ended is.goes_on.hears in
     let message : is.asked.message ≡ Request = some_one is.asked.message Request (sym is.is_sent ∙ hears.0.asked) in record {
+      inform = is.inform;
+      is_begun = is.stands.is_begun;
+      from = is.from;
       pending = is.asked.pending;
       is_asked = is.is_asked ∙ ap (λ (m : SentMessage). Some (asked_with m is.asked.pending)) message;
       is_response = subst (λ (h : Heard). IsHeardIn is.asked.pending what.given h) hears.0.heard_is is.is_heard;
@@ -211,40 +214,40 @@ going_on n Answered ns (inl is) = cc is
 going_on n Answered ns (inr is) = let wrong = is.1 in cc wrong
 going_on n (Refused counter) ns is = refl
 
-received : (first middle last : Informs) (now : ℕ) (datagram : List ℕ) (r : ReceiverTaken) (events : List InformEvent) (known : RunStands first events middle) → InformsStay middle last → ReceiverHappens middle known.history now datagram r last
-    → RunStands first (receives now datagram r ∷ events) last
-received first middle last now datagram (taken.Refused why) events known stays happens = record {
+received : (first middle last : Informs) (now receiver : ℕ) (datagram : List ℕ) (r : ReceiverTaken) (events : List InformEvent) (known : RunStands first events middle) → InformsStay middle last → ReceiverHappens middle known.history now receiver datagram r last
+    → RunStands first (receives now receiver datagram r ∷ events) last
+received first middle last now receiver datagram (taken.Refused why) events known stays happens = record {
   history = known.history;
-  is = unchanged first known.history events (receives now datagram (taken.Refused why)) known.is refl refl refl;
+  is = unchanged first known.history events (receives now receiver datagram (taken.Refused why)) known.is refl refl refl;
   stands = happens.1.stands;
   stays = stays_on first middle last known.stays stays;
 }
-received first middle last now datagram taken.NoAnswer events known stays happens = record {
+received first middle last now receiver datagram taken.NoAnswer events known stays happens = record {
   history = known.history;
-  is = unchanged first known.history events (receives now datagram taken.NoAnswer) known.is refl refl refl;
-  stands = happens.1.stands;
+  is = unchanged first known.history events (receives now receiver datagram taken.NoAnswer) known.is refl refl refl;
+  stands = happens.2.still.stands;
   stays = stays_on first middle last known.stays stays;
 }
-received first middle last now datagram (taken.Heard n) events known stays happens =
-    let e = answers n (record { held = last.manager; seconds = now / 1000; datagram = datagram; given = happens.given }) happens.heard in record {
+received first middle last now receiver datagram (taken.Heard n) events known stays happens =
+    let e = answers n (accepted_at last.manager now receiver datagram happens.given) happens.heard in record {
       history = e ∷ known.history;
-      is = happened first middle last e known.history events (receives now datagram (taken.Heard n)) known.stays known.is happens.happens known.is.begun known.is.sent
+      is = happened first middle last e known.history events (receives now receiver datagram (taken.Heard n)) known.stays known.is happens.happens known.is.begun known.is.sent
           (known.is.answered ∙ going_on n happens.heard.turn (answered_in known.history) happens.next);
       stands = happens.happens.stands;
       stays = stays_on first middle last known.stays stays;
     }
-received first middle last now datagram (taken.Acknowledged n) events known stays happens =
-    let e = answers n (record { held = last.manager; seconds = now / 1000; datagram = datagram; given = happens.given }) happens.heard in record {
+received first middle last now receiver datagram (taken.Acknowledged n) events known stays happens =
+    let e = answers n (accepted_at last.manager now receiver datagram happens.given) happens.heard in record {
       history = e ∷ known.history;
-      is = happened first middle last e known.history events (receives now datagram (taken.Acknowledged n)) known.stays known.is happens.happens known.is.begun known.is.sent
+      is = happened first middle last e known.history events (receives now receiver datagram (taken.Acknowledged n)) known.stays known.is happens.happens known.is.begun known.is.sent
           (ap (λ (ns : List ℕ). n ∷ ns) known.is.answered ∙ ap (λ (t : NextStep). answered_by n t ++ answered_in known.history) (sym happens.next));
       stands = happens.happens.stands;
       stays = stays_on first middle last known.stays stays;
     }
-received first middle last now datagram (taken.Denied n counter) events known stays happens =
-    let e = answers n (record { held = last.manager; seconds = now / 1000; datagram = datagram; given = happens.given }) happens.heard in record {
+received first middle last now receiver datagram (taken.Denied n counter) events known stays happens =
+    let e = answers n (accepted_at last.manager now receiver datagram happens.given) happens.heard in record {
       history = e ∷ known.history;
-      is = happened first middle last e known.history events (receives now datagram (taken.Denied n counter)) known.stays known.is happens.happens known.is.begun known.is.sent
+      is = happened first middle last e known.history events (receives now receiver datagram (taken.Denied n counter)) known.stays known.is happens.happens known.is.begun known.is.sent
           (known.is.answered ∙ ap (λ (t : NextStep). answered_by n t ++ answered_in known.history) (sym happens.next));
       stands = happens.happens.stands;
       stays = stays_on first middle last known.stays stays;
@@ -295,9 +298,9 @@ run_stands first (comes i n ∷ events) last stands run =
       stands = happens.stands;
       stays = stays_on first run.0 last known.stays run.2.0;
     }
-run_stands first (receives now w r ∷ events) last stands run =
+run_stands first (receives now receiver w r ∷ events) last stands run =
     let known = run_stands first events run.0 stands run.1 in
-    received first run.0 last now w r events known run.2.0 (run.2.1 known.history known.stands)
+    received first run.0 last now receiver w r events known run.2.0 (run.2.1 known.history known.stands)
 run_stands first (goes_out now salt id what ∷ events) last stands run =
     let known = run_stands first events run.0 stands run.1 in
     sent_out first run.0 last now salt id what events known run.2.0 (run.2.1 known.history known.stands)

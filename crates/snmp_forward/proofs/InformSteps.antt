@@ -93,7 +93,7 @@ stands_as limits before n k i j x number inform at =
     subst (λ (m : ℕ). StandsAt limits before m j x) (sym number) (subst (λ (z : Inform). StandsAt limits before n z x) (sym inform) at)
 
 module _ (limits : InformLimits) (old new : Outstanding) (before : List InformHappening) (w y : WaitingInform) (now token : ℕ) (m : SentMessage) (held : Held) (by : Sealing) (pending : Pending) (datagram : List ℕ) (sent : IsSentInform limits now token w y)
-    (due : w.exchange.due ≤ now) (may : MayBeTried limits w.exchange m) (given : token < new.next) (waits : (r : OutstandingRequest) → map.get new.requests (message_id_of token) ≡ Some r → r.token ≡ token → r.pending ≡ pending)
+    (due : w.exchange.due ≤ now) (may : MayBeTried limits w.exchange m) (given : token < new.next) (id : pending.id ≡ message_id_of token) (waits : (r : OutstandingRequest) → map.get new.requests (message_id_of token) ≡ Some r → r.token ≡ token → r.pending ≡ pending)
     (stands : InformStands limits old before w) where
   abbrev asked_now : InformHappening
   asked_now = asks w.number w.inform.receiver now m held by pending datagram
@@ -131,6 +131,7 @@ module _ (limits : InformLimits) (old new : Outstanding) (before : List InformHa
             is_asked = ap (λ (k : InformKnown). k.asked) known_there ∙ ap (λ (a : Pending). Some (asked_with m a)) (sym (waits r there of));
             is_sent = sent_same ∙ may.asked;
           };
+          id = λ r there of. ap (λ (a : Pending). a.id) (waits r there of) ∙ id;
         });
   }
 
@@ -152,7 +153,7 @@ asks_one old new before place now token w m by pending datagram waits else at du
         goes = subst (λ (e : Option (List ℕ)). SendsMessage old.manager old.engine e w.inform m by pending datagram) (sym it.engine) goes;
       };
       stands = goes_on old new before (asks w.number w.inform.receiver now m old.manager by pending datagram) place w else at refl waits.requests stands waits.after sent.number waits.list
-          (asks_stand old.limits old.requests new.requests before w waits.after now token m old.manager by pending datagram sent due may waits.given waits.waits it);
+          (asks_stand old.limits old.requests new.requests before w waits.after now token m old.manager by pending datagram sent due may waits.given waits.id waits.waits it);
     }
 
 pub refuses_one : (old new : Informs) (before : List InformHappening) (place now : ℕ) (x w : WaitingInform) (m : SentMessage) (by : Sealing) (why : Refusal) → IsRemoved old place x new → IsAt old place w → w.exchange.due ≤ now → MayBeTried old.limits w.exchange m
@@ -288,6 +289,7 @@ module _ (limits : InformLimits) (old new : Outstanding) (before : List InformHa
   waits_on t hears wait = record {
     given = omega (arith, wait.given, keeps.later);
     own = λ r there of. own_on r hears (wait.own r (keeps.same t r wait.given there of) of);
+    id = λ r there of. wait.id r (keeps.same t r wait.given there of) of;
   }
 
   waits_then : (next : NextStep) → HearsInform w heard holds engine next y → is_end next ≡ false → (t : ℕ) → y.token ≡ Some t → IsWaitedFor new (heard_now next ∷ before) y t
@@ -306,9 +308,10 @@ module _ (limits : InformLimits) (old new : Outstanding) (before : List InformHa
 
 module _ (old new : Informs) (before : List InformHappening) (place : ℕ) (w y : WaitingInform) (given : Given) (heard : Heard) (holds : Bool) (engine : List ℕ) (next : NextStep) (hears : HearsInform w heard holds engine next y) (of : given.engine ≡ engine)
     (at : IsAt old place w) (is_answer : IsAnswered before w given heard) (keeps : KeepsRequests old.requests new.requests) (else : IsSameElse old new) (stands : InformsStand before old) where
-  answer_lawful : (what : Accepted) → what.given ≡ given → IsAccepted old.manager.users what → IsAnswer (setting_of old) before w.number what (heard_as heard holds next)
-  answer_lawful what whats accepted = record {
+  answer_lawful : (what : Accepted) → what.receiver ≡ w.inform.receiver → what.given ≡ given → IsAccepted old.manager.users what → IsAnswer (setting_of old) before w.number what (heard_as heard holds next)
+  answer_lawful what from whats accepted = record {
     inform = w.inform;
+    from = sym from;
     at = w.exchange;
     stands = (stands_there old before place w at stands).at;
     asked = is_answer.asked;
@@ -320,25 +323,25 @@ module _ (old new : Informs) (before : List InformHappening) (place : ℕ) (w y 
     goes_on = hears.hears;
   }
 
-  pub answers_on : {Next : NextStep → Type 0} → Next next → new.list.items ≡ slice_set old.list.items place y → is_end next ≡ false → AnswersGiven old before given holds w.number Next new
+  pub answers_on : {Next : NextStep → Type 0} → Next next → new.list.items ≡ slice_set old.list.items place y → is_end next ≡ false → AnswersGiven old before w.inform.receiver given holds w.number Next new
   answers_on is list on = record {
     heard = heard_as heard holds next;
     clock = refl;
     next = is;
-    happens = λ what whats accepted. record {
-      lawful = answer_lawful what whats accepted;
+    happens = λ what from whats accepted. record {
+      lawful = answer_lawful what from whats accepted;
       stands = goes_on old new before (answers w.number what (heard_as heard holds next)) place w else at refl keeps stands y hears.number list
           (heard_stands old.limits old.requests new.requests before w y given heard holds engine what of whats is_answer keeps (stands_there old before place w at stands) next hears on);
     };
   }
 
-  pub answers_off : {Next : NextStep → Type 0} → Next next → new.list.items ≡ remove (slice_set old.list.items place y) place → is_end next ≡ true → AnswersGiven old before given holds w.number Next new
+  pub answers_off : {Next : NextStep → Type 0} → Next next → new.list.items ≡ remove (slice_set old.list.items place y) place → is_end next ≡ true → AnswersGiven old before w.inform.receiver given holds w.number Next new
   answers_off is list ended = record {
     heard = heard_as heard holds next;
     clock = refl;
     next = is;
-    happens = λ what whats accepted. record {
-      lawful = answer_lawful what whats accepted;
+    happens = λ what from whats accepted. record {
+      lawful = answer_lawful what from whats accepted;
       stands = goes_off old new before (answers w.number what (heard_as heard holds next)) place w else at refl keeps stands (list ∙ remove_set old.list.items place y)
           (ap (λ (k : InformKnown). k.over) (known_same w.number (answers w.number what (heard_as heard holds next)) before refl) ∙ ended);
     };
@@ -353,10 +356,10 @@ module _ (old new : Informs) (before : List InformHappening) (place : ℕ) (i x 
   number_is : w.number ≡ i.number
   number_is = ap (λ (z : WaitingInform). z.number) (same_Some w i (sym at ∙ at_i))
 
-  pub hears_on : (Next : NextStep → Type 0) → Next next → new.list.items ≡ slice_set old.list.items place y → is_end next ≡ false → AnswersGiven old before given holds i.number Next new
-  hears_on Next has list on = subst (λ (n : ℕ). AnswersGiven old before given holds n Next new) number_is
+  pub hears_on : (Next : NextStep → Type 0) → Next next → new.list.items ≡ slice_set old.list.items place y → is_end next ≡ false → AnswersGiven old before w.inform.receiver given holds i.number Next new
+  hears_on Next has list on = subst (λ (n : ℕ). AnswersGiven old before w.inform.receiver given holds n Next new) number_is
       (answers_on old new before place w y given heard holds engine next hears_it of at is_answer keeps else stands has list on)
 
-  pub hears_off : (Next : NextStep → Type 0) → Next next → new.list.items ≡ remove (slice_set old.list.items place y) place → is_end next ≡ true → AnswersGiven old before given holds i.number Next new
-  hears_off Next has list ended = subst (λ (n : ℕ). AnswersGiven old before given holds n Next new) number_is
+  pub hears_off : (Next : NextStep → Type 0) → Next next → new.list.items ≡ remove (slice_set old.list.items place y) place → is_end next ≡ true → AnswersGiven old before w.inform.receiver given holds i.number Next new
+  hears_off Next has list ended = subst (λ (n : ℕ). AnswersGiven old before w.inform.receiver given holds n Next new) number_is
       (answers_off old new before place w y given heard holds engine next hears_it of at is_answer keeps else stands has list ended)

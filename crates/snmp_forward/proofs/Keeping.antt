@@ -6,7 +6,7 @@ use Rattle.std.proofs.lemmas.List.Elements.{All-cons, All-head, All-nil, All-pus
 use Rattle.std.proofs.lemmas.List.Quantifiers.{all_pairs_push}
 use Rattle.vacm_core.specs.Tables.{Tables}
 use Rattle.snmp_gate.specs.declared.devices.Device.{Device}
-use Rattle.snmp_forward.specs.History.{Happening, left_in, number_of, sent, taken, unsent}
+use Rattle.snmp_forward.specs.History.{Happening, as_inform, left_in, number_of, sent, taken, unsent}
 use Rattle.snmp_forward.specs.Queue.{Waiting, waiting, with_left}
 use Rattle.snmp_forward.specs.Sending.{MayBeSent}
 use Rattle.snmp_forward.specs.Standing.{QueueStands, WaitingStands}
@@ -60,6 +60,7 @@ left_other : (n : ℕ) (e : Happening) (before : List Happening) → n ≢ numbe
 left_other n (taken number device w to) before never = other n number to (left_in n before) never
 left_other n (sent number receiver by w) before never = other n number (drop 1 (left_in n before)) (left_in n before) never
 left_other n (unsent number receiver by why) before never = other n number (drop 1 (left_in n before)) (left_in n before) never
+left_other n (as_inform number inform) before never = other n number (drop 1 (left_in n before)) (left_in n before) never
 
 module _ (tables : Tables) (devices : List Device) (receivers : List Receiver) where
   stands_on : (e : Happening) (before : List Happening) (w : Waiting) → w.number ≢ number_of e → WaitingStands tables devices receivers before w → WaitingStands tables devices receivers (e ∷ before) w

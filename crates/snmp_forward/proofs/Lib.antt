@@ -14,3 +14,5 @@ pub mod InformAnswers
 pub mod InformRunning
 pub mod Mediating
 pub mod Mediation
+pub mod Originating
+pub mod OriginatorSteps

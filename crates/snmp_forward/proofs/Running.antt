@@ -6,9 +6,9 @@ use Rattle.std.proofs.lemmas.List.Elements.{All-head, All-tail}
 use Rattle.snmp_agent.specs.Agent.{AgentState}
 use Rattle.snmp_gate.specs.declared.devices.Device.{Device}
 use Rattle.snmp_gate.specs.declared.devices.Devices.{Devices}
-use Rattle.snmp_forward.specs.History.{AreLawful, Happening, IsLawful, chosen_for, dealt_with, left_in, number_of, sent, taken, unsent}
+use Rattle.snmp_forward.specs.History.{AreLawful, Happening, IsLawful, as_inform, chosen_for, dealt_with, left_in, number_of, sent, taken, unsent}
 use Rattle.snmp_forward.proofs.Keeping.{other, pairs_front}
-use Rattle.snmp_forward.specs.Runs.{Event, IsHistoryOf, IsRun, came, finds_no_memory, goes_out, sent_in, taken_in, trap_comes, went_out}
+use Rattle.snmp_forward.specs.Runs.{Event, IsHistoryOf, IsRun, came, finds_no_memory, goes_out, sent_in, taken_in, trap_comes, turned, turned_in, went_out}
 use Rattle.snmp_forward.specs.Standing.{ForwarderStands, Happens, IsAsBefore, QueueStands, SendHappens, Stays, TrapHappens, sealing_at}
 use Rattle.snmp_forward.specs.declared.forwarder.Forwarded.{Forwarded}
 use Rattle.snmp_forward.specs.declared.forwarder.Forwarded.TheVariants as out
@@ -16,6 +16,7 @@ use Rattle.snmp_forward.specs.declared.forwarder.Forwarder.{Forwarder}
 use Rattle.snmp_forward.specs.declared.forwarder.TrapTaken.{TrapTaken}
 use Rattle.snmp_forward.specs.declared.forwarder.TrapTaken.TheVariants as trap
 use Rattle.snmp_forward.specs.Queue.{waitings_of}
+use Rattle.snmp_forward.specs.declared.inform.Inform.{Inform}
 use Rattle.snmp_forward.specs.declared.queue.WaitingNotification.{WaitingNotification}
 use Rattle.snmp_forward.specs.declared.receivers.Receiver.{Receiver}
 use Rattle.snmp_forward.specs.declared.receivers.Receivers.{Receivers}
@@ -63,11 +64,12 @@ pub record RunStands (first : Forwarder) (events : List Event) (last : Forwarder
 
 -- a history with what happens now
 happened : (first middle last : Forwarder) (e : Happening) (history : List Happening) (events : List Event) (event : Event) → Stays first middle → IsHistoryOf first events history → Happens middle history e last
-    → came (event ∷ events) ≡ taken_in (e ∷ history) → went_out (event ∷ events) ≡ sent_in (e ∷ history) → IsHistoryOf first (event ∷ events) (e ∷ history)
-happened first middle last e history events event stays is happens inwards outwards = record {
+    → came (event ∷ events) ≡ taken_in (e ∷ history) → went_out (event ∷ events) ≡ sent_in (e ∷ history) → turned (event ∷ events) ≡ turned_in (e ∷ history) → IsHistoryOf first (event ∷ events) (e ∷ history)
+happened first middle last e history events event stays is happens inwards outwards informs = record {
   lawful = (lawful_same first middle history e stays happens.lawful, is.lawful);
   inwards = inwards;
   outwards = outwards;
+  informs = informs;
 }
 
 trap_stands : (first middle last : Forwarder) (device : ℕ) (w : List ℕ) (becomes : TrapTaken) (events : List Event) (known : RunStands first events middle) → Stays middle last → TrapHappens middle known.history device w becomes last
@@ -75,37 +77,44 @@ trap_stands : (first middle last : Forwarder) (device : ℕ) (w : List ℕ) (bec
 trap_stands first middle last device w (trap.Waits n) events known stays happens =
     let e = taken n device w happens.0 in record {
       history = e ∷ known.history;
-      is = happened first middle last e known.history events (trap_comes device w (trap.Waits n)) known.stays known.is happens.1 (ap (λ (xs : List (ℕ × List ℕ)). (device, w) ∷ xs) known.is.inwards) known.is.outwards;
+      is = happened first middle last e known.history events (trap_comes device w (trap.Waits n)) known.stays known.is happens.1 (ap (λ (xs : List (ℕ × List ℕ)). (device, w) ∷ xs) known.is.inwards) known.is.outwards known.is.informs;
       stands = happens.1.stands;
       stays = stays_on first middle last known.stays stays;
     }
-trap_stands first middle last device w (trap.NotNotification why) events known stays happens = record { history = known.history; is = record { lawful = known.is.lawful; inwards = known.is.inwards; outwards = known.is.outwards }; stands = happens; stays = stays_on first middle last known.stays stays }
-trap_stands first middle last device w trap.OtherCommunity events known stays happens = record { history = known.history; is = record { lawful = known.is.lawful; inwards = known.is.inwards; outwards = known.is.outwards }; stands = happens; stays = stays_on first middle last known.stays stays }
-trap_stands first middle last device w trap.ForNobody events known stays happens = record { history = known.history; is = record { lawful = known.is.lawful; inwards = known.is.inwards; outwards = known.is.outwards }; stands = happens; stays = stays_on first middle last known.stays stays }
-trap_stands first middle last device w trap.NoRoom events known stays happens = record { history = known.history; is = record { lawful = known.is.lawful; inwards = known.is.inwards; outwards = known.is.outwards }; stands = happens; stays = stays_on first middle last known.stays stays }
+trap_stands first middle last device w (trap.NotNotification why) events known stays happens = record { history = known.history; is = record { lawful = known.is.lawful; inwards = known.is.inwards; outwards = known.is.outwards; informs = known.is.informs }; stands = happens; stays = stays_on first middle last known.stays stays }
+trap_stands first middle last device w trap.OtherCommunity events known stays happens = record { history = known.history; is = record { lawful = known.is.lawful; inwards = known.is.inwards; outwards = known.is.outwards; informs = known.is.informs }; stands = happens; stays = stays_on first middle last known.stays stays }
+trap_stands first middle last device w trap.ForNobody events known stays happens = record { history = known.history; is = record { lawful = known.is.lawful; inwards = known.is.inwards; outwards = known.is.outwards; informs = known.is.informs }; stands = happens; stays = stays_on first middle last known.stays stays }
+trap_stands first middle last device w trap.NoRoom events known stays happens = record { history = known.history; is = record { lawful = known.is.lawful; inwards = known.is.inwards; outwards = known.is.outwards; informs = known.is.informs }; stands = happens; stays = stays_on first middle last known.stays stays }
 
 send_stands : (first middle last : Forwarder) (now : ℕ) (salt : List ℕ) (id : ℕ) (what : Forwarded) (events : List Event) (known : RunStands first events middle) → Stays middle last → SendHappens middle known.history (sealing_at now salt id) what last
     → RunStands first (goes_out now salt id what ∷ events) last
 send_stands first middle last now salt id (out.ToReceiver n to w) events known stays happens =
     let e = sent n to (sealing_at now salt id) w.items in record {
       history = e ∷ known.history;
-      is = happened first middle last e known.history events (goes_out now salt id (out.ToReceiver n to w)) known.stays known.is happens known.is.inwards (ap (λ (xs : List (ℕ × List ℕ)). (to, w.items) ∷ xs) known.is.outwards);
+      is = happened first middle last e known.history events (goes_out now salt id (out.ToReceiver n to w)) known.stays known.is happens known.is.inwards (ap (λ (xs : List (ℕ × List ℕ)). (to, w.items) ∷ xs) known.is.outwards) known.is.informs;
       stands = happens.stands;
       stays = stays_on first middle last known.stays stays;
     }
 send_stands first middle last now salt id (out.Unsent n to why) events known stays happens =
     let e = unsent n to (sealing_at now salt id) why in record {
       history = e ∷ known.history;
-      is = happened first middle last e known.history events (goes_out now salt id (out.Unsent n to why)) known.stays known.is happens known.is.inwards known.is.outwards;
+      is = happened first middle last e known.history events (goes_out now salt id (out.Unsent n to why)) known.stays known.is happens known.is.inwards known.is.outwards known.is.informs;
       stands = happens.stands;
       stays = stays_on first middle last known.stays stays;
     }
-send_stands first middle last now salt id out.Nothing events known stays happens = record { history = known.history; is = record { lawful = known.is.lawful; inwards = known.is.inwards; outwards = known.is.outwards }; stands = happens; stays = stays_on first middle last known.stays stays }
+send_stands first middle last now salt id (out.AsInform n inform) events known stays happens =
+    let e = as_inform n inform in record {
+      history = e ∷ known.history;
+      is = happened first middle last e known.history events (goes_out now salt id (out.AsInform n inform)) known.stays known.is happens known.is.inwards known.is.outwards (ap (λ (is : List Inform). inform ∷ is) known.is.informs);
+      stands = happens.stands;
+      stays = stays_on first middle last known.stays stays;
+    }
+send_stands first middle last now salt id out.Nothing events known stays happens = record { history = known.history; is = record { lawful = known.is.lawful; inwards = known.is.inwards; outwards = known.is.outwards; informs = known.is.informs }; stands = happens; stays = stays_on first middle last known.stays stays }
 
 pub run_stands : (first : Forwarder) (events : List Event) (last : Forwarder) → ForwarderStands [] first → IsRun first events last → RunStands first events last
 run_stands first [] last stands run = subst (RunStands first []) (sym run) (record {
   history = [];
-  is = record { lawful = tt; inwards = refl; outwards = refl };
+  is = record { lawful = tt; inwards = refl; outwards = refl; informs = refl };
   stands = stands;
   stays = record { agent = refl; devices = refl; receivers = refl; engine = refl; most = refl };
 })
@@ -118,7 +127,7 @@ run_stands first (goes_out now salt id what ∷ events) last stands run =
 run_stands first (finds_no_memory ∷ events) last stands run =
     let known = run_stands first events run.0 stands run.1 in record {
       history = known.history;
-      is = record { lawful = known.is.lawful; inwards = known.is.inwards; outwards = known.is.outwards };
+      is = record { lawful = known.is.lawful; inwards = known.is.inwards; outwards = known.is.outwards; informs = known.is.informs };
       stands = stands_as_before run.0 last known.history run.2 known.stands;
       stays = stays_on first run.0 last known.stays run.2.stays;
     }
@@ -154,6 +163,10 @@ none_dealt n (unsent k receiver by why ∷ before) less =
     let head = All-head (λ (e : Happening). number_of e < n) (unsent k receiver by why) before less in
     other n k (dealt_with n before ++ receiver ∷ []) (dealt_with n before) (λ is. absurd (omega (arith, head, is)))
     ∙ none_dealt n before (All-tail (λ (e : Happening). number_of e < n) (unsent k receiver by why) before less)
+none_dealt n (as_inform k inform ∷ before) less =
+    let head = All-head (λ (e : Happening). number_of e < n) (as_inform k inform) before less in
+    other n k (dealt_with n before ++ inform.receiver ∷ []) (dealt_with n before) (λ is. absurd (omega (arith, head, is)))
+    ∙ none_dealt n before (All-tail (λ (e : Happening). number_of e < n) (as_inform k inform) before less)
 
 turn_begins : (n k : ℕ) (to : List ℕ) (before : List Happening) → All (λ (e : Happening). number_of e < k) before → dealt_with n before ++ left_in n before ≡ chosen_for n before
     → dealt_with n before ++ cond (nat_eq n k) to (left_in n before) ≡ cond (nat_eq n k) to (chosen_for n before)
@@ -174,6 +187,7 @@ module _ (agent : AgentState) (devices : List Device) (receivers : List Receiver
   turns n (taken k device w to ∷ before) lawful = turn_begins n k to before lawful.0.own (turns n before lawful.1)
   turns n (sent k receiver by w ∷ before) lawful = turn_ends n k receiver before lawful.0.turn.next.0 lawful.0.turn.next.1 (turns n before lawful.1)
   turns n (unsent k receiver by why ∷ before) lawful = turn_ends n k receiver before lawful.0.turn.next.0 lawful.0.turn.next.1 (turns n before lawful.1)
+  turns n (as_inform k inform ∷ before) lawful = turn_ends n k inform.receiver before lawful.0.turn.next.0 lawful.0.turn.next.1 (turns n before lawful.1)
 
   rises : (n : ℕ) (history : List Happening) → AreLawful agent devices receivers history → AllPairs (λ (a b : ℕ). a < b) (chosen_for n history)
   rises n [] lawful i j d less within = absurd (omega (arith, within))
@@ -183,6 +197,7 @@ module _ (agent : AgentState) (devices : List Device) (receivers : List Receiver
   ]
   rises n (sent k receiver by w ∷ before) lawful i j d less within = rises n before lawful.1 i j d less within
   rises n (unsent k receiver by why ∷ before) lawful i j d less within = rises n before lawful.1 i j d less within
+  rises n (as_inform k inform ∷ before) lawful i j d less within = rises n before lawful.1 i j d less within
 
   pub once : (n : ℕ) (history : List Happening) → AreLawful agent devices receivers history → AllPairs (λ (a b : ℕ). a < b) (dealt_with n history)
   once n history lawful = pairs_front (λ (a b : ℕ). a < b) (dealt_with n history) (left_in n history) (subst (AllPairs (λ (a b : ℕ). a < b)) (sym (turns n history lawful)) (rises n history lawful))

@@ -9,7 +9,10 @@ use Rattle.std.specs.Prelude.{Err, Ok}
 use Rattle.snmp_message.specs.declared.refusal.Refusal.{Refusal}
 use Rattle.snmp_agent.specs.Agent.{AgentState}
 use Rattle.snmp_gate.specs.declared.devices.Device.{Device}
+use Rattle.snmp_forward.specs.Informs.{IsInformOf}
 use Rattle.snmp_forward.specs.Sending.{AreChosen, MayBeSent, SealsTrap}
+use Rattle.snmp_forward.specs.declared.inform.Inform.{Inform}
+use Rattle.snmp_forward.specs.declared.receivers.NotifyType.TheVariants as notify
 use Rattle.snmp_forward.specs.declared.receivers.Receiver.{Receiver}
 use Rattle.snmp_forward.specs.declared.sealing.Sealing.{Sealing}
 
@@ -20,12 +23,15 @@ pub data Happening : Type 0 where
   sent : (number receiver : ℕ) (by : Sealing) (datagram : List ℕ) → Happening
   -- it isn't sent to a receiver: it can't be sealed
   unsent : (number receiver : ℕ) (by : Sealing) (why : Refusal) → Happening
+  -- it becomes this Inform for a receiver
+  as_inform : (number : ℕ) (inform : Inform) → Happening
 
 -- the notification to which it happens
 abbrev pub number_of : Happening → ℕ
 number_of (taken number device datagram to) = number
 number_of (sent number receiver by datagram) = number
 number_of (unsent number receiver by why) = number
+number_of (as_inform number inform) = number
 
 -- the receivers to which the notification of this number is still to be sent
 abbrev pub left_in : ℕ → List Happening → List ℕ
@@ -34,6 +40,8 @@ left_in n (taken number device datagram to ∷ before) = cond (nat_eq n number) 
 left_in n (sent number receiver by datagram ∷ before) =
     cond (nat_eq n number) (drop 1 (left_in n before)) (left_in n before)
 left_in n (unsent number receiver by why ∷ before) =
+    cond (nat_eq n number) (drop 1 (left_in n before)) (left_in n before)
+left_in n (as_inform number inform ∷ before) =
     cond (nat_eq n number) (drop 1 (left_in n before)) (left_in n before)
 
 -- ---- the laws
@@ -59,11 +67,19 @@ pub record IsTurn (agent : AgentState) (devices : List Device) (receivers : List
   pub is_taken : Contains before (taken number device datagram to)
   pub may : MayBeSent agent.tables devices receivers device datagram receiver
 
--- what comes of sealing it for the receiver's user, at its level
+-- what comes of sealing it for the receiver's user, at its level: the receiver is notified by Traps
 pub record ComesOf (agent : AgentState) (devices : List Device) (receivers : List Receiver)
     (before : List Happening) (number receiver : ℕ) (by : Sealing) (answer : Result (List ℕ) Refusal) : Type 0 where
   pub turn : IsTurn agent devices receivers before number receiver
+  pub type_is : turn.may.to.notify_type ≡ notify.Trap
   pub seals : SealsTrap agent by turn.may.to turn.may.from.context.items turn.may.pdu answer
+
+-- it is the receiver's turn, which is notified by Informs, and the Inform is that of the notification
+pub record TurnsInto (agent : AgentState) (devices : List Device) (receivers : List Receiver)
+    (before : List Happening) (number : ℕ) (inform : Inform) : Type 0 where
+  pub turn : IsTurn agent devices receivers before number inform.receiver
+  pub type_is : turn.may.to.notify_type ≡ notify.Inform
+  pub inform_is : IsInformOf inform.receiver turn.may.to turn.may.from.context.items turn.datagram inform
 
 abbrev pub IsLawful : AgentState → List Device → List Receiver → List Happening → Happening → Type 0
 IsLawful agent devices receivers before (taken number device datagram to) =
@@ -72,6 +88,8 @@ IsLawful agent devices receivers before (sent number receiver by datagram) =
     ComesOf agent devices receivers before number receiver by (Ok datagram)
 IsLawful agent devices receivers before (unsent number receiver by why) =
     ComesOf agent devices receivers before number receiver by (Err why)
+IsLawful agent devices receivers before (as_inform number inform) =
+    TurnsInto agent devices receivers before number inform
 
 abbrev pub AreLawful : AgentState → List Device → List Receiver → List Happening → Type 0
 AreLawful agent devices receivers [] = ⊤
@@ -86,8 +104,9 @@ chosen_for n [] = []
 chosen_for n (taken number device datagram to ∷ before) = cond (nat_eq n number) to (chosen_for n before)
 chosen_for n (sent number receiver by datagram ∷ before) = chosen_for n before
 chosen_for n (unsent number receiver by why ∷ before) = chosen_for n before
+chosen_for n (as_inform number inform ∷ before) = chosen_for n before
 
--- those to which it was sent, or wasn't and won't be
+-- those to which it was sent, as a Trap or as an Inform, or wasn't and won't be
 abbrev pub dealt_with : ℕ → List Happening → List ℕ
 dealt_with n [] = []
 dealt_with n (taken number device datagram to ∷ before) = dealt_with n before
@@ -95,3 +114,5 @@ dealt_with n (sent number receiver by datagram ∷ before) =
     cond (nat_eq n number) (dealt_with n before ++ receiver ∷ []) (dealt_with n before)
 dealt_with n (unsent number receiver by why ∷ before) =
     cond (nat_eq n number) (dealt_with n before ++ receiver ∷ []) (dealt_with n before)
+dealt_with n (as_inform number inform ∷ before) =
+    cond (nat_eq n number) (dealt_with n before ++ inform.receiver ∷ []) (dealt_with n before)

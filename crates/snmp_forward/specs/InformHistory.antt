@@ -28,10 +28,11 @@ use Rattle.snmp_forward.specs.declared.exchange.InformLimits.{InformLimits}
 use Rattle.snmp_forward.specs.declared.inform.Inform.{Inform}
 use Rattle.snmp_forward.specs.declared.sealing.Sealing.{Sealing}
 
--- a datagram that came at a moment, in seconds, and was accepted, with what the manager holds then
+-- a datagram that came from a receiver at a moment, in seconds, and was accepted, with what the manager holds then
 pub record Accepted : Type 0 where
   pub held : Held
   pub seconds : ℕ
+  pub receiver : ℕ
   pub datagram : List ℕ
   pub given : Given
 
@@ -159,10 +160,12 @@ abbrev pub IsHeardIn : Pending → Given → Heard → Type 0
 IsHeardIn pending g heard = (c : Contexts) (p : PduParts) → ScopedFront g.text c → PduText c.pdu p
     → IsHeardOf pending g c p (Some heard)
 
--- an answer is heard only if it was accepted, and is one to the very message that was sent last
+-- an answer is heard only if it came from the receiver of the Inform, was accepted, and is one to the very message that
+-- was sent last
 pub record IsAnswer (s : InformSetting) (before : List InformHappening) (number : ℕ) (what : Accepted)
     (heard : HearStep) : Type 0 where
   pub inform : Inform
+  pub from : inform.receiver ≡ what.receiver
   pub at : InformExchange
   pub stands : StandsAt s.limits before number inform at
   pub asked : Asked

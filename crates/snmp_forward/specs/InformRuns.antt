@@ -3,8 +3,8 @@
 -- `InformEvent`: a call and its answer. `IsInformRun`: the events of Informs, the latest first. `IsInformHistoryOf`: a
 -- history of these events that is lawful. `times_ended`: how often an Inform ended. `IsOwnResponse`: an accepted
 -- message is the Response to the very Inform. `IsMediatedAsk`: the receiver of an Inform may be notified of all of it.
-use Rattle.std.specs.Prelude.{◌≡◌, ◌+◌, ℕ, Bool, true, false, cond, nat_eq, List, [], ◌∷◌, ◌++◌, Some}
-use Rattle.snmp_incoming.specs.Outcome.{Given}
+use Rattle.std.specs.Prelude.{◌≡◌, ◌+◌, ℕ, Bool, true, false, cond, nat_eq, List, [], ◌∷◌, ◌++◌, Contains, None}
+use Rattle.std.specs.Prelude.{Option, Some}
 use Rattle.snmp_gate.specs.declared.devices.Device.{Device}
 use Rattle.snmp_manager.specs.Views.{Held}
 use Rattle.snmp_manager.specs.declared.pending.Pending.{Pending}
@@ -13,10 +13,10 @@ use Rattle.snmp_requests.specs.declared.device_request.Heard.TheVariants.{Respon
 use Rattle.snmp_requests.specs.declared.device_request.NextStep.{NextStep}
 use Rattle.snmp_requests.specs.declared.device_request.NextStep.TheVariants as step
 use Rattle.snmp_requests.specs.declared.device_request.SentMessage.TheVariants.{Request}
-use Rattle.snmp_forward.specs.InformHistory.{AreInformsLawful, InformHappening, InformSetting, IsHeardIn, answers}
-use Rattle.snmp_forward.specs.InformHistory.{asked_with, asks, begins, ends, is_end, known_of}
+use Rattle.snmp_forward.specs.InformHistory.{Accepted, AreInformsLawful, InformHappening, InformSetting, IsHeardIn}
+use Rattle.snmp_forward.specs.InformHistory.{answers, asked_with, asks, begins, ends, is_end, known_of}
 use Rattle.snmp_forward.specs.InformStanding.{AreAsBefore, InformHappens, InformSendHappens, InformsStand, InformsStay}
-use Rattle.snmp_forward.specs.InformStanding.{ReceiverHappens, setting_of}
+use Rattle.snmp_forward.specs.InformStanding.{IsFull, ReceiverHappens, setting_of}
 use Rattle.snmp_forward.specs.Informs.{IsMediated, SendsInform}
 use Rattle.snmp_forward.specs.declared.inform.Inform.{Inform}
 use Rattle.snmp_forward.specs.declared.informs.InformSent.{InformSent}
@@ -31,8 +31,8 @@ use Rattle.snmp_forward.specs.declared.sealing.Sealing.{Sealing}
 pub data InformEvent : Type 0 where
   -- `add` takes an Inform, which has this number
   comes : (inform : Inform) (number : ℕ) → InformEvent
-  -- `take` takes a datagram of a receiver
-  receives : (now : ℕ) (datagram : List ℕ) (becomes : ReceiverTaken) → InformEvent
+  -- `take` takes a datagram of the receiver of this number
+  receives : (now receiver : ℕ) (datagram : List ℕ) (becomes : ReceiverTaken) → InformEvent
   -- `next` says what goes out
   goes_out : (now : ℕ) (salt : List ℕ) (first_id : ℕ) (what : InformSent) → InformEvent
   -- one of these calls finds no memory
@@ -43,9 +43,15 @@ abbrev pub AddsOne : Informs → Inform → ℕ → Informs → Type 0
 AddsOne old inform number new = InformsStay old new
     × ((before : List InformHappening) → InformsStand before old → InformHappens old before (begins number inform) new)
 
-abbrev pub TakesOne : Informs → ℕ → List ℕ → ReceiverTaken → Informs → Type 0
-TakesOne old now datagram becomes new = InformsStay old new
-    × ((before : List InformHappening) → InformsStand before old → ReceiverHappens old before now datagram becomes new)
+-- it begins to wait, with this number, if there is room for it
+abbrev pub AddsIfRoom : Informs → Inform → Option ℕ → Informs → Type 0
+AddsIfRoom old inform None new = IsFull old × (new ≡ old)
+AddsIfRoom old inform (Some number) new = AddsOne old inform number new
+
+abbrev pub TakesOne : Informs → ℕ → ℕ → List ℕ → ReceiverTaken → Informs → Type 0
+TakesOne old now receiver datagram becomes new = InformsStay old new
+    × ((before : List InformHappening) → InformsStand before old
+    → ReceiverHappens old before now receiver datagram becomes new)
 
 abbrev pub SendsNext : Informs → ℕ → List ℕ → ℕ → InformSent → Informs → Type 0
 SendsNext old now salt first_id what new = InformsStay old new
@@ -57,8 +63,8 @@ abbrev pub IsInformRun : Informs → List InformEvent → Informs → Type 0
 IsInformRun first [] last = last ≡ first
 IsInformRun first (comes inform number ∷ before) last =
     (middle : Informs) × IsInformRun first before middle × AddsOne middle inform number last
-IsInformRun first (receives now datagram becomes ∷ before) last =
-    (middle : Informs) × IsInformRun first before middle × TakesOne middle now datagram becomes last
+IsInformRun first (receives now receiver datagram becomes ∷ before) last =
+    (middle : Informs) × IsInformRun first before middle × TakesOne middle now receiver datagram becomes last
 IsInformRun first (goes_out now salt first_id what ∷ before) last =
     (middle : Informs) × IsInformRun first before middle × SendsNext middle now salt first_id what last
 IsInformRun first (finds_no_memory ∷ before) last =
@@ -70,7 +76,7 @@ IsInformRun first (finds_no_memory ∷ before) last =
 abbrev pub informs_of : List InformEvent → List Inform
 informs_of [] = []
 informs_of (comes inform number ∷ before) = inform ∷ informs_of before
-informs_of (receives now datagram becomes ∷ before) = informs_of before
+informs_of (receives now receiver datagram becomes ∷ before) = informs_of before
 informs_of (goes_out now salt first_id what ∷ before) = informs_of before
 informs_of (finds_no_memory ∷ before) = informs_of before
 
@@ -82,7 +88,7 @@ sent_by _ = []
 abbrev pub went_out : List InformEvent → List (ℕ × List ℕ)
 went_out [] = []
 went_out (comes inform number ∷ before) = went_out before
-went_out (receives now datagram becomes ∷ before) = went_out before
+went_out (receives now receiver datagram becomes ∷ before) = went_out before
 went_out (goes_out now salt first_id what ∷ before) = sent_by what ++ went_out before
 went_out (finds_no_memory ∷ before) = went_out before
 
@@ -94,7 +100,7 @@ acknowledged_by _ = []
 abbrev pub acknowledged : List InformEvent → List ℕ
 acknowledged [] = []
 acknowledged (comes inform number ∷ before) = acknowledged before
-acknowledged (receives now datagram becomes ∷ before) = acknowledged_by becomes ++ acknowledged before
+acknowledged (receives now receiver datagram becomes ∷ before) = acknowledged_by becomes ++ acknowledged before
 acknowledged (goes_out now salt first_id what ∷ before) = acknowledged before
 acknowledged (finds_no_memory ∷ before) = acknowledged before
 
@@ -144,11 +150,14 @@ abbrev pub times_ended : ℕ → List InformHappening → ℕ
 times_ended n [] = 0
 times_ended n (e ∷ before) = is_ended n e + times_ended n before
 
--- an accepted message is the Response to the very Inform that was sent last
-pub record IsOwnResponse (before : List InformHappening) (number : ℕ) (given : Given) : Type 0 where
+-- an accepted message came from the receiver of the Inform, and is the Response to the very Inform that was sent last
+pub record IsOwnResponse (before : List InformHappening) (number : ℕ) (what : Accepted) : Type 0 where
+  pub inform : Inform
+  pub is_begun : Contains before (begins number inform)
+  pub from : inform.receiver ≡ what.receiver
   pub pending : Pending
   pub is_asked : (known_of number before).asked ≡ Some (asked_with Request pending)
-  pub is_response : IsHeardIn pending given Response
+  pub is_response : IsHeardIn pending what.given Response
 
 -- the Inform that goes to the receiver with this number tells what a device sent, and the receiver may be notified of
 -- all of it in the device's context; it is for the receiver's engine, and sealed for its user at its level

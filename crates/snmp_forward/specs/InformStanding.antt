@@ -28,7 +28,7 @@ use Rattle.snmp_forward.specs.InformHistory.{IsHeardIn}
 use Rattle.snmp_forward.specs.InformHistory.{IsInformLawful, StandsAt, answers, asked_with, asks, begins, ends}
 use Rattle.snmp_forward.specs.InformHistory.{inform_of}
 use Rattle.snmp_forward.specs.InformHistory.{known_of, no_token, refused, tried}
-use Rattle.snmp_forward.specs.WaitingInforms.{IsSentInform}
+use Rattle.snmp_forward.specs.WaitingInforms.{IsAskedAs, IsSentInform}
 use Rattle.snmp_forward.specs.declared.exchange.InformLimits.{InformLimits}
 use Rattle.snmp_forward.specs.declared.exchange.InformExchange.{InformExchange}
 use Rattle.snmp_forward.specs.declared.inform.Inform.{Inform}
@@ -52,6 +52,8 @@ pub record IsWaitedFor (requests : Outstanding) (before : List InformHappening) 
   pub given : token < requests.next
   pub own : (r : OutstandingRequest) → map.get requests.requests (message_id_of token) ≡ Some r
       → r.token ≡ token → IsOwn before w r
+  pub id : (r : OutstandingRequest) → map.get requests.requests (message_id_of token) ≡ Some r
+      → r.token ≡ token → r.pending.id ≡ message_id_of token
 
 pub record InformStands (limits : InformLimits) (requests : Outstanding) (before : List InformHappening)
     (w : WaitingInform) : Type 0 where
@@ -151,19 +153,20 @@ pub record WaitsForAnswer (old : Informs) (place now token : ℕ) (pending : Pen
   pub list : new.list.items ≡ slice_set old.list.items place after
   pub requests : KeepsRequests old.requests new.requests
   pub given : token < new.requests.next
+  pub id : pending.id ≡ message_id_of token
   pub waits : (r : OutstandingRequest) → map.get new.requests.requests (message_id_of token) ≡ Some r
       → r.token ≡ token → r.pending ≡ pending
   pub later : (t : ℕ) → t < old.requests.next → t < token
   pub there : before.token ≢ Some token → HasRequest new.requests token pending
 
--- what is heard of it is lawful, whatever datagram it is that was accepted
-pub record AnswersGiven (old : Informs) (before : List InformHappening) (given : Given) (holds_clock : Bool)
-    (number : ℕ) (Next : NextStep → Type 0) (new : Informs) : Type 0 where
+-- what is heard of it is lawful, whatever datagram of its receiver it is that was accepted
+pub record AnswersGiven (old : Informs) (before : List InformHappening) (receiver : ℕ) (given : Given)
+    (holds_clock : Bool) (number : ℕ) (Next : NextStep → Type 0) (new : Informs) : Type 0 where
   pub heard : HearStep
   pub clock : heard.holds_clock ≡ holds_clock
   pub next : Next heard.turn
-  pub happens : (what : Accepted) → what.given ≡ given → IsAccepted old.manager.users what
-      → InformHappens old before (answers number what heard) new
+  pub happens : (what : Accepted) → what.receiver ≡ receiver → what.given ≡ given
+      → IsAccepted old.manager.users what → InformHappens old before (answers number what heard) new
 
 -- ---- what is taken
 
@@ -176,60 +179,76 @@ abbrev pub IsForAnother : Outstanding → WaitingInform → Given → Contexts �
 IsForAnother requests w g c p = (token : ℕ) (r : OutstandingRequest) → w.token ≡ Some token
     → map.get requests.requests (message_id_of token) ≡ Some r → r.token ≡ token → IsHeardOf r.pending g c p None
 
--- the message is no answer to what is waited for: whatever its contexts and its PDU are
-abbrev pub IsForNone : Informs → Given → Type 0
-IsForNone f g = (c : Contexts) (p : PduParts) → ScopedFront g.text c → PduText c.pdu p
-    → All (λ (w : WaitingInform). IsForAnother f.requests w g c p) f.list.items
+-- the message of this receiver is no answer to what is waited for from it: whatever its contexts and its PDU are
+abbrev pub IsForNone : Informs → ℕ → Given → Type 0
+IsForNone f receiver g = (c : Contexts) (p : PduParts) → ScopedFront g.text c → PduText c.pdu p
+    → All (λ (w : WaitingInform). w.inform.receiver ≡ receiver → IsForAnother f.requests w g c p) f.list.items
+
+-- no answer of this receiver with this msgID is waited for
+abbrev pub IsUnasked : Informs → ℕ → ℕ → Type 0
+IsUnasked f receiver id = All (λ (w : WaitingInform). ¬ IsAskedAs receiver id w) f.list.items
+
+-- it changes nothing of what waits: where it has a msgID of nothing that the receiver was sent, nor of the requests
+pub record LeavesAll (old : Informs) (before : List InformHappening) (receiver : ℕ) (given : Given) (new : Informs)
+    : Type 0 where
+  pub none : IsForNone old receiver given
+  pub still : IsStill old before new
+  pub requests : IsUnasked old receiver given.id → new.requests ≡ old.requests
 
 -- what becomes of an answer
-abbrev pub HeardHappens : Informs → List InformHappening → Given → Bool → ReceiverTaken → Informs → Type 0
-HeardHappens old before given holds_clock (taken.Refused why) new = ⊥
-HeardHappens old before given holds_clock taken.NoAnswer new = ⊥
-HeardHappens old before given holds_clock (taken.Heard n) new =
-    AnswersGiven old before given holds_clock n IsGoingOn new
-HeardHappens old before given holds_clock (taken.Acknowledged n) new =
-    AnswersGiven old before given holds_clock n (λ next. next ≡ step.Answered) new
-HeardHappens old before given holds_clock (taken.Denied n counter) new =
-    AnswersGiven old before given holds_clock n (λ next. next ≡ step.Refused counter) new
+abbrev pub HeardHappens : Informs → List InformHappening → ℕ → Given → Bool → ReceiverTaken → Informs → Type 0
+HeardHappens old before receiver given holds_clock (taken.Refused why) new = ⊥
+HeardHappens old before receiver given holds_clock taken.NoAnswer new = ⊥
+HeardHappens old before receiver given holds_clock (taken.Heard n) new =
+    AnswersGiven old before receiver given holds_clock n IsGoingOn new
+HeardHappens old before receiver given holds_clock (taken.Acknowledged n) new =
+    AnswersGiven old before receiver given holds_clock n (λ next. next ≡ step.Answered) new
+HeardHappens old before receiver given holds_clock (taken.Denied n counter) new =
+    AnswersGiven old before receiver given holds_clock n (λ next. next ≡ step.Refused counter) new
 
 -- whether boots and time of this engine are held
 abbrev pub holds : Held → List ℕ → Bool
 holds held engine = is_some (pair_at held.clocks engine)
 
 -- what becomes of an accepted message
-abbrev pub AnswerHappens : Informs → List InformHappening → Given → ReceiverTaken → Informs → Type 0
-AnswerHappens old before given taken.NoAnswer new = IsForNone old given × IsStill old before new
-AnswerHappens old before given (taken.Refused why) new = ⊥
-AnswerHappens old before given (taken.Heard n) new =
-    HeardHappens old before given (holds old.manager given.engine) (taken.Heard n) new
-AnswerHappens old before given (taken.Acknowledged n) new =
-    HeardHappens old before given (holds old.manager given.engine) (taken.Acknowledged n) new
-AnswerHappens old before given (taken.Denied n counter) new =
-    HeardHappens old before given (holds old.manager given.engine) (taken.Denied n counter) new
+abbrev pub AnswerHappens : Informs → List InformHappening → ℕ → Given → ReceiverTaken → Informs → Type 0
+AnswerHappens old before receiver given taken.NoAnswer new = LeavesAll old before receiver given new
+AnswerHappens old before receiver given (taken.Refused why) new = ⊥
+AnswerHappens old before receiver given (taken.Heard n) new =
+    HeardHappens old before receiver given (holds old.manager given.engine) (taken.Heard n) new
+AnswerHappens old before receiver given (taken.Acknowledged n) new =
+    HeardHappens old before receiver given (holds old.manager given.engine) (taken.Acknowledged n) new
+AnswerHappens old before receiver given (taken.Denied n counter) new =
+    HeardHappens old before receiver given (holds old.manager given.engine) (taken.Denied n counter) new
 
--- the message that the manager accepts is an answer for the Inform of this number
-pub record HearsOf (old : Informs) (before : List InformHappening) (now : ℕ) (datagram : List ℕ) (number : ℕ)
-    (Next : NextStep → Type 0) (new : Informs) : Type 0 where
+-- a datagram of a receiver that was accepted at this moment, in milliseconds
+abbrev pub accepted_at : Held → ℕ → ℕ → List ℕ → Given → Accepted
+accepted_at held now receiver datagram given =
+    record { held = held; seconds = now / 1000; receiver = receiver; datagram = datagram; given = given }
+
+-- the message of this receiver that the manager accepts is an answer for the Inform of this number
+pub record HearsOf (old : Informs) (before : List InformHappening) (now receiver : ℕ) (datagram : List ℕ)
+    (number : ℕ) (Next : NextStep → Type 0) (new : Informs) : Type 0 where
   pub given : Given
   pub takes : Takes old.manager (now / 1000) datagram (Some (Ok given)) new.manager
   pub heard : HearStep
   pub clock : heard.holds_clock ≡ holds new.manager given.engine
   pub next : Next heard.turn
-  pub happens : InformHappens old before (answers number
-      (record { held = new.manager; seconds = now / 1000; datagram = datagram; given = given }) heard) new
+  pub happens : InformHappens old before
+      (answers number (accepted_at new.manager now receiver datagram given) heard) new
 
 -- what becomes of a datagram
-abbrev pub ReceiverHappens : Informs → List InformHappening → ℕ → List ℕ → ReceiverTaken → Informs → Type 0
-ReceiverHappens old before now datagram (taken.Refused why) new =
+abbrev pub ReceiverHappens : Informs → List InformHappening → ℕ → ℕ → List ℕ → ReceiverTaken → Informs → Type 0
+ReceiverHappens old before now receiver datagram (taken.Refused why) new =
     Takes old.manager (now / 1000) datagram (Some (Err why)) new.manager × IsStill old before new
-ReceiverHappens old before now datagram taken.NoAnswer new =
-    ((given : Given) × Takes old.manager (now / 1000) datagram (Some (Ok given)) new.manager × IsForNone old given)
-    × IsStill old before new
-ReceiverHappens old before now datagram (taken.Heard n) new = HearsOf old before now datagram n IsGoingOn new
-ReceiverHappens old before now datagram (taken.Acknowledged n) new =
-    HearsOf old before now datagram n (λ next. next ≡ step.Answered) new
-ReceiverHappens old before now datagram (taken.Denied n counter) new =
-    HearsOf old before now datagram n (λ next. next ≡ step.Refused counter) new
+ReceiverHappens old before now receiver datagram taken.NoAnswer new = (given : Given)
+    × Takes old.manager (now / 1000) datagram (Some (Ok given)) new.manager × LeavesAll old before receiver given new
+ReceiverHappens old before now receiver datagram (taken.Heard n) new =
+    HearsOf old before now receiver datagram n IsGoingOn new
+ReceiverHappens old before now receiver datagram (taken.Acknowledged n) new =
+    HearsOf old before now receiver datagram n (λ next. next ≡ step.Answered) new
+ReceiverHappens old before now receiver datagram (taken.Denied n counter) new =
+    HearsOf old before now receiver datagram n (λ next. next ≡ step.Refused counter) new
 
 -- ---- what goes out
 

@@ -14,3 +14,4 @@ pub mod WaitingInforms
 pub mod InformHistory
 pub mod InformStanding
 pub mod InformRuns
+pub mod Originating

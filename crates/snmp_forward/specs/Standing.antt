@@ -8,7 +8,7 @@ use Rattle.vacm_core.specs.Tables.{Tables}
 use Rattle.snmp_gate.specs.declared.asks.TheConstants.{REQUEST_IDS}
 use Rattle.snmp_gate.specs.declared.devices.Device.{Device}
 use Rattle.snmp_forward.specs.Choosing.{IsFromDevice, IsFromNoDevice}
-use Rattle.snmp_forward.specs.History.{Happening, IsLawful, left_in, number_of, sent, taken, unsent}
+use Rattle.snmp_forward.specs.History.{Happening, IsLawful, as_inform, left_in, number_of, sent, taken, unsent}
 use Rattle.snmp_forward.specs.Notifications.{IsNoNotification}
 use Rattle.snmp_forward.specs.Queue.{IsFull, Waiting, waitings_of}
 use Rattle.snmp_forward.specs.Sending.{MayBeSent}
@@ -60,6 +60,7 @@ abbrev pub SendHappens : Forwarder → List Happening → Sealing → Forwarded 
 SendHappens old before by (out.ToReceiver n receiver datagram) new =
     Happens old before (sent n receiver by datagram.items) new
 SendHappens old before by (out.Unsent n receiver why) new = Happens old before (unsent n receiver by why) new
+SendHappens old before by (out.AsInform n inform) new = Happens old before (as_inform n inform) new
 SendHappens old before by out.Nothing new = ForwarderStands before new
 
 -- nobody may be sent it

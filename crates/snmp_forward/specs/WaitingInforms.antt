@@ -2,7 +2,7 @@
 --
 -- `IsNewInform`: one of which nothing was sent. `SendsMessage`, `RefusesMessage`: what becomes of a message for its
 -- receiver. `IsSentInform`: the message that is due is sent. `HearsInform`: an answer came to the message that was
--- sent last. `HasToken`: its answer is waited for under this token. `IsDue`: something is to be done for it.
+-- sent last. `IsAsked`, `IsAskedAs`: an answer of a receiver is waited for. `IsDue`: something is to be done for it.
 -- `IsFirstOf`: the place of the first element with a property. `IsFirstDue`: when something is to be done for the first
 -- of them.
 use Rattle.std.specs.Prelude.{◌≡◌, ◌≢◌, ◌<◌, ◌≤◌, ℕ, Bool, List, [], All, Contains, Option, Some, None, Err, slice_get}
@@ -14,6 +14,7 @@ use Rattle.snmp_requests.specs.declared.device_request.NextStep.TheVariants as s
 use Rattle.snmp_requests.specs.declared.device_request.SentMessage.{SentMessage}
 use Rattle.snmp_requests.specs.declared.device_request.SentMessage.TheVariants.{Discovery, TimeRequest, Request}
 use Rattle.snmp_requests.specs.DeviceRequests.{Begins}
+use Rattle.snmp_requests.specs.Outstanding.{message_id_of}
 use Rattle.snmp_manager.specs.Views.{Held}
 use Rattle.snmp_manager.specs.declared.pending.Pending.{Pending}
 use Rattle.snmp_message.specs.declared.refusal.Refusal.{Refusal}
@@ -93,8 +94,17 @@ pub record HearsInform (old : WaitingInform) (heard : Heard) (holds_clock : Bool
 
 -- ---- which of them
 
-abbrev pub HasToken : ℕ → WaitingInform → Type 0
-HasToken token w = w.token ≡ Some token
+-- an answer of this receiver to the message with this token is waited for
+pub record IsAsked (receiver token : ℕ) (w : WaitingInform) : Type 0 where
+  pub to : w.inform.receiver ≡ receiver
+  pub token_is : w.token ≡ Some token
+
+-- an answer of this receiver to a message with this msgID is waited for
+pub record IsAskedAs (receiver id : ℕ) (w : WaitingInform) : Type 0 where
+  pub to : w.inform.receiver ≡ receiver
+  pub token : ℕ
+  pub token_is : w.token ≡ Some token
+  pub id_is : message_id_of token ≡ id
 
 -- something is to be done for it at this moment
 abbrev pub IsDue : ℕ → WaitingInform → Type 0

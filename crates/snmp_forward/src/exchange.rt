@@ -19,7 +19,9 @@ pub struct InformLimits {
 
 impl Default for InformLimits {
     /// Returns the limits of Informs for which none are chosen: 3 tries, 5 seconds apart.
-    fn default() -> InformLimits {
+    fn default() -> InformLimits
+        ensures { result ≡ record { again = 5000; tries = 3 } }
+    {
         InformLimits {
             again: 5_000,
             tries: 3,

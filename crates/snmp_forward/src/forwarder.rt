@@ -2,16 +2,17 @@
 
 ghost use Rattle.std.specs.Prelude.{◌≡◌, ◌≢◌, ◌↔◌, ◌<◌, ℕ, List, [], IfOk, IsTrue, MatchOption, OnErr, length};
 ghost use Rattle.snmp_forward.specs.Sending.{MayBeSent};
-ghost use Rattle.snmp_forward.specs.Written.{IsTold, IsWritten};
+ghost use Rattle.snmp_forward.specs.Written.{IsFirstInform, IsWritten, told_as};
 ghost use Rattle.snmp_forward.specs.History.{Happening};
 ghost use Rattle.snmp_forward.specs.Choosing.{IsChosen};
 ghost use Rattle.snmp_forward.specs.Standing.{ForwarderStands, IsAsBefore, IsTrapTaken, SendHappens, Stays};
 ghost use Rattle.snmp_forward.specs.Standing.{TrapHappens, sealing_at};
 
+use crate::inform::Inform;
 use crate::laws::one_notification;
 use crate::notification::{NotNotification, read_device_notification};
 use crate::queue::{WaitingNotification, WaitingNotifications};
-use crate::receivers::Receivers;
+use crate::receivers::{NotifyType, Receivers};
 use crate::sealing::Sealing;
 use crate::trap::{Written, write_trap};
 use engine_clock::EngineId;
@@ -45,6 +46,12 @@ pub enum Forwarded {
         /// The number of the receiver, counted from 0.
         receiver: usize,
         datagram: Vec<u8>,
+    },
+    /// The notification with this number is to be sent to its receiver as this Inform (`inform.receiver`).
+    AsInform {
+        /// The number of the notification.
+        number: u64,
+        inform: Inform,
     },
     /// The notification with this number isn't sent to a receiver.
     Unsent {
@@ -117,10 +124,30 @@ fn write_first(
     )
 }
 
-/// Returns what goes out, of what becomes of a notification.
-fn told_of(number: u64, receiver: usize, written: Written) -> Forwarded
-    ensures { IsTold number receiver written result }
+/// What becomes of the notification that waits longest, for the first of its receivers, to which it goes as a Trap.
+#[derive(Drop)]
+pub(crate) struct TrapTurn {
+    /// The number of the notification.
+    pub(crate) number: u64,
+    /// The number of the receiver, counted from 0.
+    pub(crate) receiver: usize,
+    pub(crate) written: Written,
+}
+
+/// Returns what goes out, of what becomes of the notification that waits longest, if there is one.
+fn told_of(turn: Option<TrapTurn>) -> Forwarded
+    ensures { result ≡ told_as turn }
 {
+    let Some(
+        TrapTurn {
+            number,
+            receiver,
+            written,
+        },
+    ) = turn
+    else {
+        return Forwarded::Nothing;
+    };
     match written {
         Written::Sends(datagram) => Forwarded::ToReceiver {
             number,
@@ -246,7 +273,8 @@ impl Forwarder {
     }
 
     /// Sends the notification that waits longest to the next of its receivers, at this moment, in milliseconds, and
-    /// returns what goes out. It is called until it returns `Nothing`.
+    /// returns what goes out. A receiver that is notified by Informs is sent nothing: the Inform is returned. It is
+    /// called until it returns `Nothing`.
     ///
     /// No salt may come twice (RFC 3826, section 3.1.2.1). `ask_id` is a number that didn't come before. msgID is its
     /// remainder by 2147483648.
@@ -259,8 +287,72 @@ impl Forwarder {
         ensures stays { Stays self.old self.new }
         ensures err { OnErr result (IsAsBefore self.old self.new) }
     {
+        if let Some((number, inform)) = self.first_inform()? {
+            self.pass();
+            return Ok(Forwarded::AsInform { number, inform });
+        }
+        let turn = self.next_trap(now, salt, ask_id)?;
+        Ok(told_of(turn))
+    }
+
+    /// Returns the Inform as which the notification that waits longest goes to the next of its receivers, and the
+    /// number of the notification. None: it goes to that receiver as a Trap, or nothing waits. The error is out of
+    /// memory.
+    pub(crate) fn first_inform(&self) -> Result<Option<(u64, Inform)>, AllocError>
+        ensures { IfOk result (IsFirstInform self.now) }
+    {
         let Some(first) = self.waiting.list().first() else {
-            return Ok(Forwarded::Nothing);
+            return Ok(None);
+        };
+        // what waits goes from a device to a receiver that there are
+        let Some(from) = self.devices.list().get(first.device) else {
+            return Ok(None);
+        };
+        let Some(to) = self.receivers.list().get(first.receiver) else {
+            return Ok(None);
+        };
+        if to.notify_type != NotifyType::Inform {
+            return Ok(None);
+        }
+        let inform = Inform::new(
+            self.alloc,
+            first.receiver,
+            to,
+            &from.context,
+            &first.datagram,
+        )?;
+        Ok(Some((first.number, inform)))
+    }
+
+    /// The notification that waits longest is dealt with for the next of its receivers, to which it goes as an Inform.
+    pub(crate) fn pass(&mut self)
+        requires { 0 < length self.old.waiting.list.items }
+        ensures happens { (before : List Happening) (by : Sealing) (number : ℕ) (inform : Inform)
+            → ForwarderStands before self.old → IsFirstInform self.old (Some (number, inform))
+            → SendHappens self.old before by (Forwarded.AsInform number inform) self.new }
+        ensures stays { Stays self.old self.new }
+    {
+        self.waiting.advance();
+    }
+
+    /// Sends the notification that waits longest to the next of its receivers as a Trap, as `next` does. None: nothing
+    /// waits.
+    pub(crate) fn next_trap(
+        &mut self,
+        now: u64,
+        salt: [u8; 8],
+        ask_id: u32,
+    ) -> Result<Option<TrapTurn>, AllocError>
+        ensures happens { IfOk result (λ turn. (before : List Happening) → ForwarderStands before self.old
+            → IsFirstInform self.old None
+            → SendHappens self.old before (sealing_at now salt ask_id) (told_as turn) self.new) }
+        ensures nothing { IfOk result (λ turn. turn ≡ None
+            → (self.old.waiting.list.items ≡ []) × (self.new ≡ self.old)) }
+        ensures stays { Stays self.old self.new }
+        ensures err { OnErr result (IsAsBefore self.old self.new) }
+    {
+        let Some(first) = self.waiting.list().first() else {
+            return Ok(None);
         };
         let (number, receiver) = (first.number, first.receiver);
         let by = Sealing {
@@ -278,6 +370,10 @@ impl Forwarder {
             &by,
         )?;
         self.waiting.advance();
-        Ok(told_of(number, receiver, written))
+        Ok(Some(TrapTurn {
+            number,
+            receiver,
+            written,
+        }))
     }
 }

@@ -46,11 +46,11 @@ pub fn informs_are_mediated()
 {}
 
 /// In a lawful history an Inform is acknowledged by its own Response alone (`response`): the Inform itself was sent
-/// last, and the message that came has its msgID, engine, user, level, contexts and request-id. It ends once at most
-/// (`once`), and its receiver is sent each message at most as often as it may be tried (`tries`).
+/// last, and the message came from its receiver, with its msgID, engine, user, level, contexts and request-id. It ends
+/// once at most (`once`), and its receiver is sent each message at most as often as it may be tried (`tries`).
 pub fn an_inform_is_acknowledged_by_its_own_response()
     ensures response { (s : InformSetting) (before : List InformHappening) (n : ℕ) (what : Accepted) (heard : HearStep)
-        → IsAnswer s before n what heard → heard.turn ≡ Answered → IsOwnResponse before n what.given }
+        → IsAnswer s before n what heard → heard.turn ≡ Answered → IsOwnResponse before n what }
     ensures once { (s : InformSetting) (n : ℕ) (history : List InformHappening) → AreInformsLawful s history
         → times_ended n history ≤ 1 }
     ensures tries { (s : InformSetting) (n : ℕ) (m : SentMessage) (history : List InformHappening)

@@ -11,6 +11,7 @@ ghost use Rattle.snmp_requests.specs.Outstanding.{IsFreeToken, message_id_of};
 ghost use Rattle.snmp_requests.specs.declared.outstanding.TheConstants.{REQUESTS_LIMIT};
 ghost use Rattle.snmp_forward.specs.Exchange.{MayBeTried};
 ghost use Rattle.snmp_forward.specs.InformHistory.{InformEnd, InformHappening, IsReason, begins};
+ghost use Rattle.snmp_forward.specs.InformRuns.{AddsIfRoom};
 ghost use Rattle.snmp_forward.specs.InformStanding.{AnswerHappens, AreAsBefore, HasNoRoom, HeardHappens};
 ghost use Rattle.snmp_forward.specs.InformStanding.{InformHappens, InformSendHappens, InformsStand, InformsStay};
 ghost use Rattle.snmp_forward.specs.InformStanding.{IsAnswered};
@@ -23,7 +24,7 @@ use crate::asking::AskedWith;
 use crate::exchange::{InformLimits, InformTurn};
 use crate::inform::Inform;
 use crate::sealing::Sealing;
-use crate::waiting_inform::{WaitingInform, first_due, next_due, place_of};
+use crate::waiting_inform::{WaitingInform, first_due, is_unasked, next_due, place_of};
 use engine_clock::EngineId;
 use snmp_incoming::Taken;
 use snmp_manager::{Manager, Pending};
@@ -183,17 +184,37 @@ impl Informs {
         Ok(number)
     }
 
-    /// Takes what a receiver sent, at this moment, in milliseconds.
+    /// An Inform waits, as `add` says, if there is room for it. Its number is returned. None: there is no room.
+    ///
+    /// The error is out of memory, and then all is as before.
+    pub(crate) fn add_if_room(&mut self, inform: Inform) -> Result<Option<u64>, AllocError>
+        ensures adds { IfOk result (λ added. AddsIfRoom self.old inform added self.new) }
+        ensures err { OnErr result (AreAsBefore self.old self.new) }
+    {
+        if self.is_full() {
+            return Ok(None);
+        }
+        let number = self.add(inform)?;
+        Ok(Some(number))
+    }
+
+    /// Takes what the receiver with this number sent, at this moment, in milliseconds. It is an answer to what was sent
+    /// to that receiver alone. With a msgID of nothing that was sent to it last it changes nothing of what waits.
     ///
     /// The error is out of memory. Then it isn't taken, and may be taken again.
-    pub fn take(&mut self, now: u64, datagram: &[u8]) -> Result<ReceiverTaken, AllocError>
+    pub fn take(
+        &mut self,
+        now: u64,
+        receiver: usize,
+        datagram: &[u8],
+    ) -> Result<ReceiverTaken, AllocError>
         ensures happens { IfOk result (λ taken. (before : List InformHappening) → InformsStand before self.old
-            → ReceiverHappens self.old before now datagram.now taken self.new) }
+            → ReceiverHappens self.old before now receiver datagram.now taken self.new) }
         ensures stays { InformsStay self.old self.new }
         ensures err { OnErr result (AreAsBefore self.old self.new) }
     {
         match self.manager.take(now / 1000, datagram) {
-            Ok(taken) => Ok(self.accept(&taken)),
+            Ok(taken) => Ok(self.accept(receiver, &taken)),
             Err(refused) => {
                 if refused.is_memory() {
                     return Err(AllocError);
@@ -203,18 +224,21 @@ impl Informs {
         }
     }
 
-    /// Finds the Inform to which an accepted message is an answer, and hears it.
-    fn accept(&mut self, taken: &Taken<'_>) -> ReceiverTaken
+    /// Finds the Inform of this receiver to which an accepted message is an answer, and hears it.
+    fn accept(&mut self, receiver: usize, taken: &Taken<'_>) -> ReceiverTaken
         ensures happens { (before : List InformHappening) → InformsStand before self.old
-            → AnswerHappens self.old before (given_of taken.now) result self.new }
+            → AnswerHappens self.old before receiver (given_of taken.now) result self.new }
         ensures same { IsSameElse self.old self.new }
     {
+        if is_unasked(&self.list, receiver, taken.id) {
+            return ReceiverTaken::NoAnswer;
+        }
         let _scoped = taken.scoped();
         let _pdu = taken.pdu();
         let Some(answered) = self.requests.take_answer(taken) else {
             return ReceiverTaken::NoAnswer;
         };
-        let Some(place) = place_of(&self.list, answered.token) else {
+        let Some(place) = place_of(&self.list, receiver, answered.token) else {
             return ReceiverTaken::NoAnswer;
         };
         let holds_clock = self.manager.pair(&taken.engine).is_some();
@@ -233,7 +257,7 @@ impl Informs {
         ensures happens { (before : List InformHappening) (given : Given) (w : WaitingInform)
             → InformsStand before self.old → given.engine ≡ engine.now → IsAt self.old place w
             → IsAnswered before w given answered.heard
-            → HeardHappens self.old before given holds_clock result self.new }
+            → HeardHappens self.old before w.inform.receiver given holds_clock result self.new }
         ensures same { IsSameElse self.old self.new }
     {
         let number = self.list[place].number;

@@ -6,7 +6,8 @@
 //! use snmp_agent::Agent;
 //! use snmp_ber::Level;
 //! use snmp_forward::{
-//!     Forwarded, Forwarder, NotNotification, Receiver, Receivers, TrapTaken, WAITING_LIMIT,
+//!     Forwarded, Forwarder, NotNotification, NotifyType, Receiver, Receivers, TrapTaken,
+//!     WAITING_LIMIT,
 //! };
 //! use snmp_gate::{Device, Devices};
 //! use snmpsec_config::Config;
@@ -62,6 +63,7 @@
 //!         list.push(Receiver {
 //!             user: Vec::from_slice(alloc, user)?,
 //!             level: Level::NoAuthNoPriv,
+//!             notify_type: NotifyType::Trap,
 //!         })?;
 //!     }
 //!     Receivers::new(list).map_err(|_| AllocError)
@@ -111,13 +113,16 @@
 //! use engine_clock::{Clocks, EngineId};
 //! use snmp_agent::Agent;
 //! use snmp_ber::Level;
-//! use snmp_forward::{InformLimits, InformSent, Informs, Receiver, ReceiverTaken, Receivers};
+//! use snmp_forward::{
+//!     Forwarder, InformLimits, Informs, NotifyType, Originated, Originator, Receiver, ReceiverTaken,
+//!     Receivers, TrapTaken, WAITING_LIMIT,
+//! };
 //! use snmp_gate::{Device, Devices};
 //! use snmp_manager::Manager;
 //! use snmpsec_config::Config;
 //! use std::alloc::{AllocError, Global};
 //!
-//! /// Ann may be notified of all, and Bob of nothing.
+//! /// Ann may be notified of all.
 //! const TABLES: &[u8] = b"\
 //! [[user]]\nname = 'ann'\nauth = 'sha1'\nauth-password = 'correct horse'\npriv-password = 'battery staple'\n\
 //! [[context]]\nname = 'rack-1-pdu'\n\
@@ -146,48 +151,61 @@
 //!     Devices::new(list).map_err(|_| AllocError)
 //! }
 //!
+//! /// Ann listens at two places: at receiver 0 for Traps, and at receiver 1 for Informs.
 //! fn receivers(alloc: Global) -> Result<Receivers, AllocError> {
 //!     let mut list = Vec::new(alloc);
-//!     for user in [b"bob", b"ann"] {
+//!     for notify_type in [NotifyType::Trap, NotifyType::Inform] {
 //!         list.push(Receiver {
-//!             user: Vec::from_slice(alloc, user)?,
+//!             user: Vec::from_slice(alloc, b"ann")?,
 //!             level: Level::AuthPriv,
+//!             notify_type,
 //!         })?;
 //!     }
 //!     Receivers::new(list).map_err(|_| AllocError)
 //! }
 //!
-//! /// Adds an Inform for each receiver that may be notified of the Trap, and returns how many wait.
-//! fn informs(alloc: Global) -> Result<Informs, AllocError> {
+//! fn originator(alloc: Global) -> Result<Originator, AllocError> {
 //!     let config = Config::read(alloc, TABLES).map_err(|_| AllocError)?;
 //!     let (devices, receivers) = (devices(alloc)?, receivers(alloc)?);
 //!     let engine = EngineId::of(b"\x80\x00\x1f\x88\x04gate").ok_or(AllocError)?;
-//!     let manager = Manager::new(alloc, config.users, Clocks::new(alloc));
-//!     let mut informs = Informs::new(alloc, engine, manager, 1_024, InformLimits::default());
-//!     for receiver in 0..2 {
-//!         let inform = receivers.inform(alloc, &config.access, &devices, 0, receiver, TRAP)?;
-//!         let Some(inform) = inform else { continue };
-//!         if !informs.is_full() {
-//!             informs.add(inform)?;
-//!         }
-//!     }
-//!     Ok(informs)
+//!     let manager = Manager::new(alloc, config.users.try_clone()?, Clocks::new(alloc));
+//!     let agent = Agent::new(alloc, engine.copy(), 1, 0, config.users, config.access);
+//!     let own = engine.copy();
+//!     let forwarder = Forwarder::new(alloc, agent, own, devices, receivers, WAITING_LIMIT);
+//!     let informs = Informs::new(alloc, engine, manager, 1_024, InformLimits::default());
+//!     Ok(Originator::new(forwarder, informs))
 //! }
 //!
-//! /// The receiver's engine.
+//! /// The engine of receiver 1.
 //! fn receiver(alloc: Global) -> Result<Agent, AllocError> {
 //!     let config = Config::read(alloc, TABLES).map_err(|_| AllocError)?;
 //!     let engine = EngineId::of(b"\x80\x00\x1f\x88\x04receiver").ok_or(AllocError)?;
 //!     Ok(Agent::new(alloc, engine, 1, 0, config.users, config.access))
 //! }
 //!
-//! /// Sends what is due, and takes what the receiver answers: a Report, or the Response.
+//! /// The receiver of a Trap that goes out.
+//! fn trap_for(out: Originated) -> Option<usize> {
+//!     match out {
+//!         Originated::Trap { receiver, .. } => Some(receiver),
+//!         _ => None,
+//!     }
+//! }
+//!
+//! /// The receiver of an Inform that begins.
+//! fn inform_for(out: Originated) -> Option<usize> {
+//!     match out {
+//!         Originated::InformBegins { receiver, .. } => Some(receiver),
+//!         _ => None,
+//!     }
+//! }
+//!
+//! /// Sends what is due for the Inform, and takes what its receiver answers: a Report, or the Response.
 //! fn exchanged(
-//!     informs: &mut Informs,
+//!     originator: &mut Originator,
 //!     receiver: &mut Agent,
 //!     salt: u8,
 //! ) -> Result<ReceiverTaken, AllocError> {
-//!     let InformSent::ToReceiver { datagram, .. } = informs.next(5_000, [salt; 8], 7)? else {
+//!     let Originated::InformSent { datagram, .. } = originator.next(5_000, [salt; 8], 7)? else {
 //!         return Err(AllocError);
 //!     };
 //!     let answer = match receiver.take(60, &datagram) {
@@ -196,19 +214,27 @@
 //!             .map_err(|_| AllocError)?,
 //!         Err(refused) => refused.report.ok_or(AllocError)?,
 //!     };
-//!     informs.take(5_000, &answer)
+//!     originator.take_receiver(5_000, 1, &answer)
 //! }
 //!
-//! let mut informs = informs(rt.alloc())?;
+//! let mut originator = originator(rt.alloc())?;
 //! let mut receiver = receiver(rt.alloc())?;
-//! assert_eq!(rt; (informs.len(), informs.due()), (1, Some(0)));
-//! let discovered = exchanged(&mut informs, &mut receiver, 1)?;
-//! let timed = exchanged(&mut informs, &mut receiver, 2)?;
-//! let acknowledged = exchanged(&mut informs, &mut receiver, 3)?;
+//! assert_eq!(rt; originator.take_trap(0, TRAP)?, TrapTaken::Waits(0));
+//! let trap = originator.next(5_000, [1; 8], 7)?;
+//! assert_eq!(rt; trap_for(trap), Some(0));
+//! let begins = originator.next(5_000, [2; 8], 8)?;
+//! assert_eq!(rt; inform_for(begins), Some(1));
+//! assert_eq!(rt;
+//!     (originator.waiting(), originator.informs(), originator.due()),
+//!     (0, 1, Some(0))
+//! );
+//! let discovered = exchanged(&mut originator, &mut receiver, 3)?;
+//! let timed = exchanged(&mut originator, &mut receiver, 4)?;
+//! let acknowledged = exchanged(&mut originator, &mut receiver, 5)?;
 //! assert_eq!(rt; discovered, ReceiverTaken::Heard(0));
 //! assert_eq!(rt; timed, ReceiverTaken::Heard(0));
 //! assert_eq!(rt; acknowledged, ReceiverTaken::Acknowledged(0));
-//! assert_eq!(rt; (informs.len(), informs.due()), (0, None));
+//! assert_eq!(rt; (originator.informs(), originator.due()), (0, None));
 //! ```
 #![tactic(auto)]
 
@@ -221,6 +247,8 @@ mod inform_laws;
 mod informs;
 mod laws;
 mod notification;
+mod originator;
+mod originator_laws;
 mod queue;
 mod receivers;
 mod sealing;
@@ -238,5 +266,7 @@ pub use inform_laws::{
 pub use informs::{InformSent, Informs, ReceiverTaken};
 pub use laws::{each_receiver_has_its_turn, notifications_are_mediated, one_notification};
 pub use notification::{DeviceNotification, NotNotification, read_device_notification};
+pub use originator::{Originated, Originator};
+pub use originator_laws::notifications_are_originated;
 pub use queue::WAITING_LIMIT;
-pub use receivers::{LongUserName, Receiver, Receivers, USER_NAME_LIMIT};
+pub use receivers::{LongUserName, NotifyType, Receiver, Receivers, USER_NAME_LIMIT};

@@ -14,6 +14,15 @@ use vacm_core::{Access, Vacm, ViewType};
 /// The most octets of msgUserName (RFC 3414, section 2.4).
 pub const USER_NAME_LIMIT: usize = 32;
 
+/// How a receiver is notified (RFC 3413, section 4.1, snmpNotifyType).
+#[derive(Clone, Copy, Debug, PartialEq, Eq)]
+pub enum NotifyType {
+    /// By an SNMPv2-Trap, which nobody acknowledges.
+    Trap,
+    /// By an InformRequest, which the receiver acknowledges.
+    Inform,
+}
+
 /// Who is sent notifications: a management target (RFC 3413, section 4.1).
 #[derive(Drop)]
 pub struct Receiver {
@@ -21,6 +30,7 @@ pub struct Receiver {
     pub user: Vec<u8>,
     /// The level at which they are sealed.
     pub level: Level,
+    pub notify_type: NotifyType,
 }
 
 /// Why receivers can't be sent notifications: the name of a user has more than 32 octets.

@@ -1,8 +1,8 @@
 //! An Inform that waits to be acknowledged.
 
-ghost use Rattle.std.specs.Prelude.{◌≡◌, ◌≤◌, ◌<◌, [], All, IfOk, MatchOption, min};
+ghost use Rattle.std.specs.Prelude.{◌≡◌, ◌↔◌, ◌≤◌, ◌<◌, [], All, IfOk, IsTrue, MatchOption, min};
 ghost use Rattle.snmp_ber.specs.declared.number.TheConstants.{MAX_INTEGER32};
-ghost use Rattle.snmp_forward.specs.WaitingInforms.{HasToken, HearsInform, IsAddressed, IsDue, IsFirstDue};
+ghost use Rattle.snmp_forward.specs.WaitingInforms.{HearsInform, IsAddressed, IsAsked, IsAskedAs, IsDue, IsFirstDue};
 ghost use Rattle.snmp_forward.specs.WaitingInforms.{IsFirstOf, IsMessageWritten, IsNewInform, IsSentInform};
 
 use crate::asking::{AskedWith, write_discovery, write_inform, write_time_request};
@@ -11,7 +11,7 @@ use crate::inform::Inform;
 use crate::sealing::Sealing;
 use engine_clock::EngineId;
 use snmp_manager::Manager;
-use snmp_requests::{Heard, Known, NextStep, SentMessage};
+use snmp_requests::{Heard, Known, NextStep, SentMessage, message_id};
 use std::alloc::{AllocError, Global};
 
 /// An Inform that waits to be acknowledged.
@@ -28,16 +28,29 @@ pub struct WaitingInform {
     pub token: Option<u64>,
 }
 
-/// Returns the place of the Inform whose message with this token is waited for.
-pub(crate) fn place_of(list: &[WaitingInform], token: u64) -> Option<usize>
-    ensures { MatchOption result (All (λ w. ¬ HasToken token w) list.now) (IsFirstOf (HasToken token) list.now) }
+/// Returns the place of the Inform to which an answer of this receiver, to the message with this token, is waited for.
+pub(crate) fn place_of(list: &[WaitingInform], receiver: usize, token: u64) -> Option<usize>
+    ensures { MatchOption result (All (λ w. ¬ IsAsked receiver token w) list.now)
+        (IsFirstOf (IsAsked receiver token) list.now) }
 {
     for (place, waiting) in list.iter().enumerate() {
-        if waiting.token == Some(token) {
+        if waiting.is_asked(receiver, token) {
             return Some(place);
         }
     }
     None
+}
+
+/// Returns true if no answer of this receiver to a message with this msgID is waited for.
+pub(crate) fn is_unasked(list: &[WaitingInform], receiver: usize, id: u32) -> bool
+    ensures { IsTrue result ↔ All (λ w. ¬ IsAskedAs receiver id w) list.now }
+{
+    for waiting in list {
+        if waiting.is_asked_as(receiver, id) {
+            return false;
+        }
+    }
+    true
 }
 
 /// Returns the place of the first Inform for which something is to be done.
@@ -86,6 +99,23 @@ impl WaitingInform {
             engine: None,
             token: None,
         }
+    }
+
+    /// Returns true if an answer of this receiver to the message with this token is waited for.
+    fn is_asked(&self, receiver: usize, token: u64) -> bool
+        ensures { IsTrue result ↔ IsAsked receiver token self.now }
+    {
+        self.inform.receiver == receiver && self.token == Some(token)
+    }
+
+    /// Returns true if an answer of this receiver to a message with this msgID is waited for.
+    fn is_asked_as(&self, receiver: usize, id: u32) -> bool
+        ensures { IsTrue result ↔ IsAskedAs receiver id self.now }
+    {
+        let Some(token) = self.token else {
+            return false;
+        };
+        self.inform.receiver == receiver && message_id(token) == id
     }
 
     /// Returns the engine and the user to which this message is addressed: none for a discovery.

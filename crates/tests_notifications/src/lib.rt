@@ -5,3 +5,5 @@
 mod examples;
 #[cfg(test)]
 mod informs;
+#[cfg(test)]
+mod made;

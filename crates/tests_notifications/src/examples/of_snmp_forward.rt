@@ -3,7 +3,8 @@ use engine_clock::EngineId;
 use snmp_agent::Agent;
 use snmp_ber::Level;
 use snmp_forward::{
-    Forwarded, Forwarder, NotNotification, Receiver, Receivers, TrapTaken, WAITING_LIMIT,
+    Forwarded, Forwarder, NotNotification, NotifyType, Receiver, Receivers, TrapTaken,
+    WAITING_LIMIT,
 };
 use snmp_gate::{Device, Devices};
 use snmpsec_config::Config;
@@ -60,6 +61,7 @@ fn receivers(alloc: Global) -> Result<Receivers, AllocError> {
         list.push(Receiver {
             user: Vec::from_slice(alloc, user)?,
             level: Level::NoAuthNoPriv,
+            notify_type: NotifyType::Trap,
         })?;
     }
     Receivers::new(list).map_err(|_| AllocError)

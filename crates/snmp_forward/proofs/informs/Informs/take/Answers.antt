@@ -12,7 +12,7 @@ pub returns-in-Ok-clause-happens : goal.returns-in-Ok-clause-happens
 returns-in-Ok-clause-happens c = λ before stands.
     let old = c.args.self.now in
     let middle = still old (with_manager old c.take.new.self) before refl refl refl refl (keeps_all old.requests) stands in
-    receives old c.accept.new.self c.take.new.self before c.args.now c.args.datagram.now (given_of c.in-Ok.taken) c.in-Ok.ensures.takes c.accept.ensures.same.manager c.accept.result (c.accept.ensures.happens before middle)
+    receives old c.accept.new.self c.take.new.self before c.args.now c.args.receiver c.args.datagram.now (given_of c.in-Ok.taken) c.in-Ok.ensures.takes c.accept.ensures.same.manager c.accept.result (c.accept.ensures.happens before middle)
 
 pub returns-else-is_memory-clause-happens : goal.returns-else-is_memory-clause-happens
 returns-else-is_memory-clause-happens c = λ before stands.

@@ -15,6 +15,7 @@ returns-clause-ok c =
       list = refl;
       requests = keeps_on old.requests c.add.new.self c.forget.new.requests (keeps_added old.requests c.args.token c.args.pending c.add.new.self c.requires.token added) c.forget.ensures.keeps;
       given = added_given old.requests c.args.token c.args.pending c.add.new.self c.forget.new.requests added c.forget.ensures.keeps;
+      id = c.requires.id;
       waits = added_waits old.requests c.args.token c.args.pending c.add.new.self c.forget.new.requests added c.forget.ensures.keeps;
       later = λ t less. omega (arith, less, c.requires.token.new);
       there = λ differs. added_there old.requests c.args.token c.args.pending c.add.new.self c.forget.new.requests w.token added c.forget.ensures.others differs;
