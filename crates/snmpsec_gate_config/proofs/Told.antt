@@ -6,11 +6,13 @@ use Rattle.snmpsec_config.specs.Keys.{EachKey, FirstKey}
 use Rattle.snmpsec_config.proofs.Told.{wrong_if_any, none_wrong}
 use Rattle.snmpsec_gate_config.specs.Keys.{at, listed, HasOnlyListed, IsFirstUnlisted}
 use Rattle.snmpsec_gate_config.specs.Rows.{IsGate, IsDevice, IsReceiver, AreGateLimits, AreDeviceLimits}
-use Rattle.snmpsec_gate_config.specs.Values.{Allows, IsRightAt, IsFirstWrong, IsFirstFault, IsLimit, IsFlagOrFalse, AreAddressesIfAny, IsCommunityIfAny, IsTrapKindIfAny, value_fault}
+use Rattle.snmpsec_gate_config.specs.Values.{Allows, IsRightAt, IsFirstWrong, IsFirstFault, IsLimit, IsFlagOrFalse, AreAddressesIfAny, IsCommunityIfAny, IsKindOrTrap, value_fault}
 use Rattle.std.specs.declared.net.socket_addr.SocketAddr.{SocketAddr}
 use Rattle.snmpsec_gate_config.specs.Refusals.{TellsKey, TellsNoTable, TellsUnlisted, TellsNoAddresses, TellsNoAddressesIfAny, key_fault}
 use Rattle.snmpsec_gate_config.specs.declared.values.GateValueFault.{GateValueFault}
 use Rattle.snmpsec_gate_config.specs.declared.settings.GateSettings.{GateSettings}
+use Rattle.snmpsec_gate_config.specs.declared.settings.ReceiverKind.{ReceiverKind}
+use Rattle.snmpsec_gate_config.specs.declared.settings.ReceiverKind.TheVariants.{Trap}
 use Rattle.snmpsec_gate_config.specs.declared.table.GateTable.{GateTable}
 use Rattle.snmpsec_gate_config.specs.declared.table.GateTable.TheVariants as tables
 use Rattle.snmpsec_gate_config.specs.declared.table.GateKey.{GateKey}
@@ -51,12 +53,12 @@ right_addresses_if_any v addresses (inr h) = inr (h.0, tt)
 wrong_addresses_if_any : (v : Option Data) → ((addresses : List SocketAddr) → AreAddressesIfAny v addresses → ⊥) → Allows keys.Traps v ⊎ ((v ≡ None) × ⊤) → ⊥
 wrong_addresses_if_any v none = wrong_if_any v (λ a. none a.0 (inl a.1)) (λ e. none [] (inr (e, refl)))
 
-right_kind : (v : Option Data) → IsTrapKindIfAny v → Allows keys.Kind v ⊎ ((v ≡ None) × ⊤)
-right_kind v (inl h) = inl h
-right_kind v (inr h) = inr (h, tt)
+right_kind : (v : Option Data) (kind : ReceiverKind) → IsKindOrTrap v kind → Allows keys.Kind v ⊎ ((v ≡ None) × ⊤)
+right_kind v kind (inl h) = inl (kind, h)
+right_kind v kind (inr h) = inr (h.0, tt)
 
-pub wrong_kind : (v : Option Data) → (IsTrapKindIfAny v → ⊥) → Allows keys.Kind v ⊎ ((v ≡ None) × ⊤) → ⊥
-wrong_kind v none = wrong_if_any v (λ a. none (inl a)) (λ e. none (inr e))
+pub wrong_kind : (v : Option Data) → ((kind : ReceiverKind) → IsKindOrTrap v kind → ⊥) → Allows keys.Kind v ⊎ ((v ≡ None) × ⊤) → ⊥
+wrong_kind v none = wrong_if_any v (λ a. none a.0 (inl a.1)) (λ e. none Trap (inr (e, refl)))
 
 -- ---- keys in their order
 
@@ -101,7 +103,7 @@ pub device_right : (t : Members) {device : _} → IsDevice t device → EachKey 
 device_right t h = (inl (_, h.context), (inl (_, h.address), (inl (_, h.community), (right_if_any _ _ h.write_community, device_limits_right t h.limits))))
 
 pub receiver_right : (t : Members) {receiver : _} → IsReceiver t receiver → EachKey (IsRightAt t) (listed tables.Receiver)
-receiver_right t h = (inl (_, h.address), (inl (_, h.user), (inl (_, h.level), (right_kind _ h.kind, tt))))
+receiver_right t h = (inl (_, h.address), (inl (_, h.user), (inl (_, h.level), (right_kind _ _ h.kind, tt))))
 
 -- ---- what is told
 

@@ -13,13 +13,15 @@ use Rattle.vacm_core.specs.declared.rows.FamilyRow.{FamilyRow}
 use Rattle.snmpsec_config.specs.Rows.{IsUserRow, IsGroupRow, IsAccessRow, IsFamilyRow, user_values}
 use Rattle.snmpsec_config.specs.Documents.{values_in}
 use Rattle.snmpsec_config.proofs.Unique.{same_text, same_flag, one_user, one_group, one_access, one_family, one_list, same_list, one_document}
-use Rattle.snmpsec_gate_config.specs.Values.{IsEngineId, IsAddress, AreAddressesIn, AreAddresses, AreAddressesIfAny, IsCommunityIfAny, IsLimit, IsFlagOrFalse}
+use Rattle.snmpsec_gate_config.specs.Values.{IsEngineId, IsAddress, AreAddressesIn, AreAddresses, AreAddressesIfAny, IsCommunityIfAny, IsLimit, IsFlagOrFalse, IsKindOrTrap, kind_word}
 use Rattle.snmpsec_gate_config.specs.Rows.{IsGate, IsDevice, IsReceiver, context_row, gate_values, device_values}
 use Rattle.snmpsec_gate_config.specs.Documents.{StandsFor}
 use Rattle.snmpsec_gate_config.specs.Refusals.{Says}
 use Rattle.snmpsec_gate_config.specs.declared.table.LimitKey.{LimitKey}
 use Rattle.snmpsec_gate_config.specs.declared.settings.GateSettings.{GateSettings}
 use Rattle.snmpsec_gate_config.specs.declared.settings.DeviceSettings.{DeviceSettings}
+use Rattle.snmpsec_gate_config.specs.declared.settings.ReceiverKind.{ReceiverKind}
+use Rattle.snmpsec_gate_config.specs.declared.settings.ReceiverKind.TheVariants.{Trap, Inform}
 use Rattle.snmpsec_gate_config.specs.declared.settings.ReceiverSettings.{ReceiverSettings}
 use Rattle.snmp_ber.specs.declared.level.Level.{Level}
 use Rattle.snmp_ber.specs.declared.level.Level.TheVariants.{NoAuthNoPriv, AuthNoPriv, AuthPriv}
@@ -53,6 +55,18 @@ level_of_word AuthPriv AuthNoPriv e = absurd (omega (arith, e))
 
 same_level : (v : Option Data) (a b : Level) → IsLevel v a → IsLevel v b → a ≡ b
 same_level v a b h k = level_of_word a b (ap length (same_text v (level_word a) (level_word b) h k))
+
+kind_of_word : (k m : ReceiverKind) → length (kind_word k) ≡ length (kind_word m) → k ≡ m
+kind_of_word Trap Trap e = refl
+kind_of_word Inform Inform e = refl
+kind_of_word Trap Inform e = absurd (omega (arith, e))
+kind_of_word Inform Trap e = absurd (omega (arith, e))
+
+same_kind : (v : Option Data) (a b : ReceiverKind) → IsKindOrTrap v a → IsKindOrTrap v b → a ≡ b
+same_kind v a b (inl h) (inl k) = kind_of_word a b (ap length (same_text v (kind_word a) (kind_word b) h k))
+same_kind v a b (inl h) (inr k) = let e : Some (string (kind_word a)) ≡ None = sym h ∙ k.0 in cc
+same_kind v a b (inr h) (inl k) = let e : Some (string (kind_word b)) ≡ None = sym k ∙ h.0 in cc
+same_kind v a b (inr h) (inr k) = h.1 ∙ sym k.1
 
 same_addresses_in : (values : Items) (a b : List SocketAddr) → AreAddressesIn values a → AreAddressesIn values b → a ≡ b
 same_addresses_in no_items [] [] h k = refl
@@ -123,15 +137,16 @@ one_device t a b h k =
     let at_once = same_limit _ _ _ _ h.limits.at_once k.limits.at_once in
     cc
 
-abbrev receiver_settings : SocketAddr → List ℕ → Level → ReceiverSettings
-receiver_settings address' user' level' = record { address = address'; user = user'; level = level' }
+abbrev receiver_settings : SocketAddr → List ℕ → Level → ReceiverKind → ReceiverSettings
+receiver_settings address' user' level' kind' = record { address = address'; user = user'; level = level'; kind = kind' }
 
 one_receiver : (t : Members) (a b : ReceiverSettings) → IsReceiver t a → IsReceiver t b → a ≡ b
 one_receiver t a b h k =
     let address = same_address _ _ _ h.address k.address in
     let user = same_text _ _ _ h.user.0 k.user.0 in
     let level = same_level _ _ _ h.level k.level in
-    ap (λ x. receiver_settings x a.user a.level) address ∙ ap (λ x. receiver_settings b.address x a.level) user ∙ ap (λ x. receiver_settings b.address b.user x) level
+    let kind = same_kind _ _ _ h.kind k.kind in
+    ap (λ x. receiver_settings x a.user a.level a.kind) address ∙ ap (λ x. receiver_settings b.address x a.level a.kind) user ∙ ap (λ x. receiver_settings b.address b.user x a.kind) level ∙ ap (λ x. receiver_settings b.address b.user b.level x) kind
 
 one_device_context : (t : Members) (a b : DeviceSettings) → IsDevice t a → IsDevice t b → context_row a ≡ context_row b
 one_device_context t a b h k = let context = same_text _ _ _ h.context.0 k.context.0 in cc

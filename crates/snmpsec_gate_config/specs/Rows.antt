@@ -11,7 +11,7 @@ use Rattle.snmpsec_config.specs.Values.{IsName, IsLevel}
 use Rattle.snmpsec_gate_config.specs.Keys.{at, HasOnlyListed}
 use Rattle.snmpsec_gate_config.specs.Values.{IsEngineId, IsPath, IsAddress, AreAddresses, IsCommunity}
 use Rattle.snmpsec_gate_config.specs.Values.{AreAddressesIfAny, IsCommunityIfAny, IsLimit, IsFlagOrFalse}
-use Rattle.snmpsec_gate_config.specs.Values.{IsTrapKindIfAny}
+use Rattle.snmpsec_gate_config.specs.Values.{IsKindOrTrap}
 use Rattle.snmpsec_gate_config.specs.declared.table.GateTable.TheVariants as tables
 use Rattle.snmpsec_gate_config.specs.declared.table.GateKey.TheVariants as keys
 use Rattle.snmpsec_gate_config.specs.declared.table.LimitKey.TheVariants as limits
@@ -63,7 +63,7 @@ pub record IsReceiver (t : Members) (receiver : ReceiverSettings) : Type 0 where
   pub address : IsAddress (at t keys.Address) receiver.address
   pub user : IsName (at t keys.User) receiver.user
   pub level : IsLevel (at t keys.Level) receiver.level
-  pub kind : IsTrapKindIfAny (at t keys.Kind)
+  pub kind : IsKindOrTrap (at t keys.Kind) receiver.kind
 
 -- the row of vacmContextTable that a device is (RFC 3415, section 4)
 abbrev pub context_row : DeviceSettings → ContextRow

@@ -34,7 +34,7 @@ wanted_words keys.Community = codes "a text of at most 255 octets"
 wanted_words keys.WriteCommunity = codes "a text of at most 255 octets"
 wanted_words keys.User = codes "a text of at most 32 octets"
 wanted_words keys.Level = codes "one of noAuthNoPriv, authNoPriv, authPriv"
-wanted_words keys.Kind = codes "\"trap\", since only Traps can be sent yet"
+wanted_words keys.Kind = codes "\"trap\" or \"inform\""
 wanted_words (keys.Limit key) = codes "a whole number from "
     ++ (decimal (limit_of key).least ++ (codes " to " ++ decimal (limit_of key).most))
 

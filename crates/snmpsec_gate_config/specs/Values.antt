@@ -1,8 +1,8 @@
 -- Which values are allowed at a key, and what they say. None is for an absent key.
 --
--- `IsEngineId`, `IsPath`, `IsAddress`, `AreAddresses`, `IsCommunity`, `IsLimit`, `IsFlagOrFalse`: a value and what it
--- says. `IsTrapKind`: the kind of notification that may be written. `IsRightAt`: what is there at a key is what is
--- expected, or it is left out and may be (`MayMiss`). `IsFirstWrong`: the first listed key at which a row isn't right.
+-- `IsEngineId`, `IsPath`, `IsAddress`, `AreAddresses`, `IsCommunity`, `IsLimit`, `IsFlagOrFalse`, `IsKindOrTrap`: a
+-- value and what it says. `IsRightAt`: what is there at a key is what is expected, or it is left out and may be
+-- (`MayMiss`). `IsFirstWrong`: the first listed key at which a row isn't right.
 use Rattle.std.specs.Prelude.{◌≡◌, ◌≢◌, ⊤, ◌⊎◌, ℕ, pos, ◌≤◌, ◌<◌, Bool, false, List, [], ◌∷◌, length, slice_index}
 use Rattle.std.specs.Prelude.{codes, EachIndex, Option, Some, None, is_none, Ok}
 use Rattle.std.specs.Net.Grammar.{IsSocketText}
@@ -16,6 +16,8 @@ use Rattle.snmp_ber.specs.declared.level.Level.{Level}
 use Rattle.snmpsec_config.specs.Values.{IsText, IsName, IsLevel, IsFlag}
 use Rattle.snmpsec_gate_config.specs.Keys.{at, listed}
 use Rattle.snmpsec_gate_config.specs.Limits.{limit_of}
+use Rattle.snmpsec_gate_config.specs.declared.settings.ReceiverKind.{ReceiverKind}
+use Rattle.snmpsec_gate_config.specs.declared.settings.ReceiverKind.TheVariants.{Trap, Inform}
 use Rattle.snmpsec_gate_config.specs.declared.table.GateTable.{GateTable}
 use Rattle.snmpsec_gate_config.specs.declared.table.GateKey.{GateKey}
 use Rattle.snmpsec_gate_config.specs.declared.table.GateKey.TheVariants as keys
@@ -74,13 +76,18 @@ IsLimit key value n = IsNumber key value n ⊎ ((value ≡ None) × (n ≡ (limi
 abbrev pub IsFlagOrFalse : Option Data → Bool → Type 0
 IsFlagOrFalse value flag = IsFlag value flag ⊎ ((value ≡ None) × (flag ≡ false))
 
--- the kind of notification, a Trap (RFC 3416, section 4.2.6)
-abbrev pub IsTrapKind : Option Data → Type 0
-IsTrapKind value = IsText value (codes "trap")
+-- the word for a kind of notification, as snmpNotifyType has it (RFC 3413, section 4.1)
+abbrev pub kind_word : ReceiverKind → List ℕ
+kind_word Trap = codes "trap"
+kind_word Inform = codes "inform"
 
--- that kind, or nothing where the key is absent
-abbrev pub IsTrapKindIfAny : Option Data → Type 0
-IsTrapKindIfAny value = IsTrapKind value ⊎ (value ≡ None)
+-- a kind of notification
+abbrev pub IsKind : Option Data → ReceiverKind → Type 0
+IsKind value kind = IsText value (kind_word kind)
+
+-- that kind, or a Trap where the key is absent
+abbrev pub IsKindOrTrap : Option Data → ReceiverKind → Type 0
+IsKindOrTrap value kind = IsKind value kind ⊎ ((value ≡ None) × (kind ≡ Trap))
 
 -- ---- what is expected at a key
 
@@ -98,7 +105,7 @@ Allows keys.Community value = (community : List ℕ) × IsCommunity value commun
 Allows keys.WriteCommunity value = (community : List ℕ) × IsCommunity value community
 Allows keys.User value = (name : List ℕ) × IsName value name
 Allows keys.Level value = (level : Level) × IsLevel value level
-Allows keys.Kind value = IsTrapKind value
+Allows keys.Kind value = (kind : ReceiverKind) × IsKind value kind
 Allows (keys.Limit key) value = (n : ℕ) × IsNumber key value n
 
 -- The key may be left out.

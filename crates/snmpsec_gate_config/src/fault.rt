@@ -122,7 +122,7 @@ fn wanted_words(alloc: Global, key: GateKey) -> Result<String, AllocError>
         GateKey::LongAnswers | GateKey::ReportUnreachable => format!(in alloc; "true or false"),
         GateKey::Context | GateKey::User => format!(in alloc; "a text of at most 32 octets"),
         GateKey::Level => format!(in alloc; "one of noAuthNoPriv, authNoPriv, authPriv"),
-        GateKey::Kind => format!(in alloc; "\"trap\", since only Traps can be sent yet"),
+        GateKey::Kind => format!(in alloc; "\"trap\" or \"inform\""),
         GateKey::Address => format!(in alloc;
             "an IPv4 address and a port, as \"10.1.0.7:161\", or an IPv6 address in brackets and a port"
         ),

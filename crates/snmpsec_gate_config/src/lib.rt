@@ -43,5 +43,7 @@ pub use laws::one_gateway;
 pub use limit::Limit;
 pub use oddity::DeviceOddity;
 pub use receiver::ReceiverFault;
-pub use settings::{DeviceLimits, DeviceSettings, GateSettings, GatewayLimits, ReceiverSettings};
+pub use settings::{
+    DeviceLimits, DeviceSettings, GateSettings, GatewayLimits, ReceiverKind, ReceiverSettings,
+};
 pub use table::{GateKey, GateTable, LimitKey};

@@ -13,7 +13,7 @@ use crate::fault::GateTableFault;
 use crate::listed::only_listed;
 use crate::settings::ReceiverSettings;
 use crate::table::{GateKey, GateTable};
-use crate::values::{address, level, name, trap_kind_if_any};
+use crate::values::{address, kind, level, name};
 use snmp_ber::Level;
 use std::alloc::Global;
 use toml::Table;
@@ -46,11 +46,12 @@ pub(crate) fn read_receiver(alloc: Global, row: &Table) -> Result<ReceiverSettin
     let address = address(row, GateKey::Address)?;
     let user = name(row, GateKey::User)?;
     let level = level(row, GateKey::Level)?;
-    trap_kind_if_any(row, GateKey::Kind)?;
+    let kind = kind(row, GateKey::Kind)?;
     Ok(ReceiverSettings {
         address,
         user,
         level,
+        kind,
     })
 }
 

@@ -65,6 +65,15 @@ pub struct DeviceSettings {
     pub limits: DeviceLimits,
 }
 
+/// How a receiver is notified (RFC 3413, section 4.1, snmpNotifyType).
+#[derive(Clone, Copy, Debug, PartialEq, Eq)]
+pub enum ReceiverKind {
+    /// By a Trap, which the receiver doesn't acknowledge.
+    Trap,
+    /// By an Inform, which the receiver acknowledges.
+    Inform,
+}
+
 /// What is said of a receiver of notifications.
 #[derive(Drop)]
 pub struct ReceiverSettings {
@@ -74,4 +83,6 @@ pub struct ReceiverSettings {
     pub user: Name,
     /// The level at which they are sealed.
     pub level: Level,
+    /// How it is notified.
+    pub kind: ReceiverKind,
 }

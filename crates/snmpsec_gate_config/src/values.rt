@@ -1,6 +1,6 @@
 //! The values at the keys of [gate], of a device and of a receiver.
 
-ghost use Rattle.std.specs.Prelude.{◌≡◌, ◌≢◌, ◌<◌, ℕ, List, slice_index, EachIndex, Ok, Bool, IfOk, IfErr, OnOk};
+ghost use Rattle.std.specs.Prelude.{◌≡◌, ◌≢◌, ◌<◌, ℕ, List, slice_index, EachIndex, Ok, Bool, IfOk, IfErr};
 ghost use Rattle.std.specs.Prelude.{Option, Some, MatchOption, MatchBool, option_map};
 ghost use Rattle.std.specs.Net.Grammar.{IsSocketText};
 ghost use Rattle.std.specs.Net.Socket.{socket_port};
@@ -13,10 +13,12 @@ ghost use Rattle.snmp_ber.specs.declared.level.Level.{Level as ALevel};
 ghost use Rattle.snmpsec_config.specs.Values.{IsText, IsName, IsLevel};
 ghost use Rattle.snmpsec_gate_config.specs.Keys.{at};
 ghost use Rattle.snmpsec_gate_config.specs.Values.{IsEngineId, IsPath, IsAddress, IsCommunity, IsCommunityIfAny};
-ghost use Rattle.snmpsec_gate_config.specs.Values.{IsTrapKindIfAny};
+ghost use Rattle.snmpsec_gate_config.specs.Values.{IsKindOrTrap, kind_word};
 ghost use Rattle.snmpsec_gate_config.specs.Values.{IsNumber, IsLimit, IsFlagOrFalse, value_fault};
+ghost use Rattle.snmpsec_gate_config.specs.declared.settings.ReceiverKind.{ReceiverKind as AKind};
 ghost use Rattle.snmpsec_gate_config.specs.declared.table.GateKey.TheVariants as keys;
 
+use crate::settings::ReceiverKind;
 use crate::table::{GateKey, LimitKey};
 use engine_clock::EngineId;
 use snmp_ber::Level;
@@ -227,19 +229,34 @@ pub(crate) fn level(row: &Table, key: GateKey) -> Result<Level, GateValueFault>
     }
 }
 
-/// Refuses any kind of notification at a key but Traps.
-pub(crate) fn trap_kind_if_any(row: &Table, key: GateKey) -> Result<(), GateValueFault>
-    ensures ok { OnOk result (IsTrapKindIfAny (at (table_view row.now) key)) }
+/// The kind of notification that this word names.
+fn kind_of(word: &str) -> Option<ReceiverKind>
+    ensures { MatchOption result ((kind : AKind) → word.now ≢ kind_word kind)
+        (λ kind. word.now ≡ kind_word kind) }
+{
+    match word {
+        "trap" => Some(ReceiverKind::Trap),
+        "inform" => Some(ReceiverKind::Inform),
+        _ => None,
+    }
+}
+
+/// The kind of notification at a key, or a Trap.
+pub(crate) fn kind(row: &Table, key: GateKey) -> Result<ReceiverKind, GateValueFault>
+    ensures ok { IfOk result (IsKindOrTrap (at (table_view row.now) key)) }
     ensures fault { IfErr result
         (λ f. (f ≡ value_fault (at (table_view row.now) key) key)
-        × (¬ IsTrapKindIfAny (at (table_view row.now) key))) }
+        × ((kind : AKind) → ¬ IsKindOrTrap (at (table_view row.now) key) kind)) }
 {
-    if value(row, key).is_none() {
-        return Ok(());
-    }
-    match text(row, key) {
-        Some("trap") => Ok(()),
-        _ => Err(fault(row, key)),
+    let Some(value) = value(row, key) else {
+        return Ok(ReceiverKind::Trap);
+    };
+    let Some(word) = value.as_str() else {
+        return Err(fault(row, key));
+    };
+    match kind_of(word) {
+        Some(kind) => Ok(kind),
+        None => Err(fault(row, key)),
     }
 }
 

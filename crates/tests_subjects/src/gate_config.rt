@@ -3,7 +3,8 @@
 use crate::access::question;
 use snmpsec_config::level_word;
 use snmpsec_gate_config::{
-    DeviceOddity, DeviceSettings, GateConfig, GateFault, GateRows, GateSettings, ReceiverSettings,
+    DeviceOddity, DeviceSettings, GateConfig, GateFault, GateRows, GateSettings, ReceiverKind,
+    ReceiverSettings,
 };
 use std::alloc::{AllocError, Global};
 use std::net::SocketAddr;
@@ -168,7 +169,11 @@ fn receiver(config: &GateConfig, row: &mut Row<'_>) {
 fn receiver_text(alloc: Global, receiver: &ReceiverSettings) -> Result<String, AllocError> {
     let user = shown(receiver.user.as_slice());
     let level = level_word(receiver.level);
-    format!(in alloc; "{} {user} {level}", receiver.address)
+    let kind = match receiver.kind {
+        ReceiverKind::Trap => "trap",
+        ReceiverKind::Inform => "inform",
+    };
+    format!(in alloc; "{} {user} {level} {kind}", receiver.address)
 }
 
 /// Octets as text, `-` for none, and `?` where they are no text.

@@ -31,8 +31,8 @@ returns-in_err-level-clause-fault c =
     let f = c.in_err-level.ensures.fault in
     rw (p.1, p.2) (tells tables.Receiver IsReceiver (table_view c.args.row.now) _ keys.Level f.0 c.in_ok-only_listed.ensures.ok (inr (inl (_, c.in_ok-address.ensures.ok), inr (inl (_, c.in_ok-user.ensures.ok), inl (refl, wrong (λ h. f.1 h.0 h.1))))) (λ made stands. receiver_right _ stands))
 
-pub returns-in_err-trap_kind_if_any-clause-fault : goal.returns-in_err-trap_kind_if_any-clause-fault
-returns-in_err-trap_kind_if_any-clause-fault c =
-    let p = err_from_is_err_and c.from_residual-in_err-trap_kind_if_any.result c.from_residual-in_err-trap_kind_if_any.ensures.1 in
-    let f = c.in_err-trap_kind_if_any.ensures.fault in
+pub returns-in_err-kind-clause-fault : goal.returns-in_err-kind-clause-fault
+returns-in_err-kind-clause-fault c =
+    let p = err_from_is_err_and c.from_residual-in_err-kind.result c.from_residual-in_err-kind.ensures.1 in
+    let f = c.in_err-kind.ensures.fault in
     rw (p.1, p.2) (tells tables.Receiver IsReceiver (table_view c.args.row.now) _ keys.Kind f.0 c.in_ok-only_listed.ensures.ok (inr (inl (_, c.in_ok-address.ensures.ok), inr (inl (_, c.in_ok-user.ensures.ok), inr (inl (_, c.in_ok-level.ensures.ok), inl (refl, wrong_kind _ f.1))))) (λ made stands. receiver_right _ stands))
