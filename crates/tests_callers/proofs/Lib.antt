@@ -4,3 +4,4 @@ mod Twice
 mod Begun
 mod Twins
 mod Seen
+mod Notified

@@ -1,5 +1,5 @@
 -- What is told of a request has nothing hidden, and what is asked neither.
-use Rattle.std.specs.Prelude.{◌≡◌, ◌⊎◌, ◌<◌, ℕ, pos, List, All, Contains, slice_index_or}
+use Rattle.std.specs.Prelude.{◌≡◌, ◌⊎◌, ◌<◌, ℕ, pos, List, All, Contains, Option, slice_index_or}
 use Rattle.std.specs.Global.{Vec}
 use Rattle.std.proofs.Common.{inl, inr, sym, subst, arith}
 use Rattle.std.proofs.lemmas.List.Elements.{All-weaker, All-contains_itself, AllZip-get_or, length_all_zip}
@@ -15,13 +15,14 @@ use Rattle.gateway_laws.specs.Requests.{RequestPdu}
 use Rattle.snmp_gate.specs.DeviceMessages.{IsRequestFor}
 use Rattle.snmp_gate.specs.Messages.{seen_in, set_in}
 use Rattle.snmp_gate.specs.Question.{Question}
-use Rattle.snmp_gate.specs.Replies.{Answering, IsAnswerTo, IsReported, IsSent, MayTellBulk, MayTellValues, Told, columns, front, set}
+use Rattle.snmp_gate.specs.Replies.{Answering, ClientAnswer, IsAnswerTo, IsReported, IsSent, MayTellBulk, MayTellValues, Told, answer_with, columns, front, set}
 use Rattle.snmp_gate.specs.Said.{Said}
 use Rattle.snmp_gate.specs.Waiting.{Fresh, SendHappens, answering_at}
 use Rattle.snmp_gate.specs.declared.devices.Device.{Device as DeviceIs}
 use Rattle.snmp_gate.specs.declared.gate.Gate.{Gate}
 use Rattle.snmp_gate.specs.declared.gate.Sent.{Sent}
 use Rattle.snmp_gate.specs.declared.gate.Sent.TheVariants as out
+use Rattle.snmp_gate.specs.declared.set_answer.ResponseStatus.{ResponseStatus}
 use Rattle.tests_callers.specs.declared.gateways.Out.TheVariants.{Client, Device}
 use Rattle.tests_callers.specs.Hidden.{AsksSeen, IsOwnOrSeen, KeepsHidden, is_own, is_empty, is_seen, gets, walks}
 use Rattle.tests_callers.specs.Hidden as hidden
@@ -56,20 +57,20 @@ asks tables d q said id r datagram (sets community write tag same each ask) =
     hidden.sets community id (variables_of q.list) write (subst (IsRequestFor datagram community.items id) same ask)
     (subst (λ (x : RequestPdu). All (λ (v : Variable). set_in tables q v.name) x.variables) same each)
 
-answers : (by : Answering) (tables : Tables) (q : Question) (said : Said) (g : Given) (datagram : List ℕ) → IsAnswerTo by tables q said g datagram → IsReported by g datagram ⊎ ((told : Told) × IsSent by g told datagram × All (IsOwnOrSeen (seen_in tables q) (variables_of q.list) said.variables) told.variables)
-answers by tables q said g datagram (inr report) = inl report
-answers by tables q said g datagram (inl (told, sent, (status, inl (none, may)))) = inr (told, sent, values tables q said told.variables may)
-answers by tables q said g datagram (inl (told, sent, (status, inr (inl (some, own))))) = inr (told, sent, of_own tables q said.variables told.variables own)
-answers by tables q said g datagram (inl (told, sent, (status, inr (inr (big, none))))) = inr (told, sent, subst (All (IsOwnOrSeen (seen_in tables q) (variables_of q.list) said.variables)) (sym none) (λ k d lt. absurd (omega (arith, lt))))
+answers : (by : Answering) (tables : Tables) (q : Question) (said : Said) (g : Given) (answer : ClientAnswer) → IsAnswerTo by tables q said g answer → IsReported by g answer.datagram ⊎ ((told : Told) × IsSent by g told answer.datagram × All (IsOwnOrSeen (seen_in tables q) (variables_of q.list) said.variables) told.variables)
+answers by tables q said g answer (inr report) = inl report.0
+answers by tables q said g answer (inl (told, sent, (status, inl (none, may)))) = inr (told, sent.0, values tables q said told.variables may)
+answers by tables q said g answer (inl (told, sent, (status, inr (inl (some, own))))) = inr (told, sent.0, of_own tables q said.variables told.variables own)
+answers by tables q said g answer (inl (told, sent, (status, inr (inr (big, none))))) = inr (told, sent.0, subst (All (IsOwnOrSeen (seen_in tables q) (variables_of q.list) said.variables)) (sym none) (λ k d lt. absurd (omega (arith, lt))))
 
-client_shown : (old new : Gate) (now : ℕ) (before : List Happening) (f : Fresh) (number : ℕ) (to datagram : Vec ℕ) → SendHappens old now before f (out.ToClient number to datagram) new → KeepsHidden old before (Client to datagram)
-client_shown old new now before f number to datagram (m, same, happens) =
+client_shown : (old new : Gate) (now : ℕ) (before : List Happening) (f : Fresh) (number : ℕ) (to : Vec ℕ) (says : Option ResponseStatus) (datagram : Vec ℕ) → SendHappens old now before f (out.ToClient number to says datagram) new → KeepsHidden old before (Client to datagram)
+client_shown old new now before f number to says datagram (m, same, happens) =
     let mediated = happens.lawful.mediated in
-    (number, m, answering_at old now f.salt, same, mediated.0, λ q asks. answers (answering_at old now f.salt) old.agent.tables q (told_in number before) m.kept datagram.items (mediated.1 q asks))
+    (number, m, answering_at old now f.salt, same, mediated.0, λ q asks. answers (answering_at old now f.salt) old.agent.tables q (told_in number before) m.kept (answer_with says datagram) (mediated.1 q asks))
 
-pub to_client : (old new : Gate) (now : ℕ) (before : List Happening) (f : Fresh) (sent : Sent) (number : ℕ) (to datagram : Vec ℕ) → sent ≡ out.ToClient number to datagram → SendHappens old now before f sent new → KeepsHidden old before (Client to datagram)
-to_client old new now before f sent number to datagram is happens =
-    client_shown old new now before f number to datagram (subst (λ s. SendHappens old now before f s new) is happens)
+pub to_client : (old new : Gate) (now : ℕ) (before : List Happening) (f : Fresh) (sent : Sent) (number : ℕ) (to : Vec ℕ) (says : Option ResponseStatus) (datagram : Vec ℕ) → sent ≡ out.ToClient number to says datagram → SendHappens old now before f sent new → KeepsHidden old before (Client to datagram)
+to_client old new now before f sent number to says datagram is happens =
+    client_shown old new now before f number to says datagram (subst (λ s. SendHappens old now before f s new) is happens)
 
 device_asked : (old new : Gate) (now : ℕ) (before : List Happening) (f : Fresh) (number to : ℕ) (datagram : Vec ℕ) → SendHappens old now before f (out.ToDevice number to datagram) new → KeepsHidden old before (Device to datagram)
 device_asked old new now before f number to datagram (id, request, from, happens) =

@@ -1,3 +1,4 @@
 pub mod Begun
 pub mod Codes
 pub mod Hidden
+pub mod Notified

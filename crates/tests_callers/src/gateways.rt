@@ -31,6 +31,7 @@ pub fn send(gate: &mut Gate, now: u64, salt: [u8; 8], ask_id: u32) -> Result<Out
         Sent::ToClient {
             number: _,
             client,
+            says: _,
             datagram,
         } => Ok(Out::Client(client, datagram)),
         Sent::ToDevice {
