@@ -43,6 +43,15 @@ forward_number forward.NoRoom = pos 25
 forward_number forward.Waits = pos 26
 forward_number forward.ToReceiver = pos 27
 forward_number (forward.Unsent refusal) = pos (30 + refusal_number refusal)
+forward_number forward.NoAnswer = pos 50
+forward_number forward.Heard = pos 51
+forward_number forward.Acknowledged = pos 52
+forward_number forward.Denied = pos 53
+forward_number forward.InformBegins = pos 54
+forward_number forward.InformToReceiver = pos 55
+forward_number forward.InformNoRoom = pos 56
+forward_number forward.InformGivenUp = pos 57
+forward_number (forward.InformUnsent refusal) = pos (60 + refusal_number refusal)
 
 abbrev pub forward_code : Result ForwardEvent CallFault → ℤ
 forward_code (Ok event) = forward_number event

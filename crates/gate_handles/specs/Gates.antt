@@ -2,7 +2,7 @@
 --
 -- `GateHeld`: a gateway, what its configuration says, and what came of the last call. `IsGateOf`: a gateway of a
 -- configuration that nothing has reached; `device_said`, `limits_said`: a device and the limits that it says.
--- `RefusesGate`: why there is none, the first that applies.
+-- `RefusesGate`: why there is none, the first that applies. `IsSaid`: what a configuration says, without its gateway.
 --
 -- `TakesClient`, `TakesDevice`, `SendsNext`: what becomes of a datagram and what goes out, with what happens by it
 -- and that it is lawful after what happened before (`ClientHappens`, `DeviceHappens`, `SendHappens`). `RunsOut`:
@@ -16,6 +16,7 @@ use Rattle.vacm_core.specs.Tables.{Tables, HaveSameRows}
 use Rattle.vacm_core.specs.declared.rows.AccessRow.{AccessRow}
 use Rattle.snmp_message.specs.declared.refusal.Refusal.TheVariants.{OutOfMemory}
 use Rattle.snmp_agent.specs.Agent.{AgentState}
+use Rattle.snmp_gate.specs.Fits.{IsFitTold}
 use Rattle.snmp_gate.specs.History.{Happening}
 use Rattle.snmp_gate.specs.Waiting.{ClientHappens, DeviceHappens, Fresh, GateStands, IsAsBefore, SendHappens, fresh}
 use Rattle.snmp_gate.specs.declared.devices.Device.{Device}
@@ -35,6 +36,9 @@ use Rattle.snmpsec_gate_config.specs.declared.settings.ReceiverSettings.{Receive
 use Rattle.snmp_handles.specs.Agents.{begins, no_rows}
 use Rattle.snmp_handles.specs.declared.fault.CallFault.{CallFault}
 use Rattle.snmp_handles.specs.declared.fault.CallFault.TheVariants.{Refused, BadArgument, BadConfiguration}
+use Rattle.gate_handles.specs.Notes.{note_of, note_to}
+use Rattle.gate_handles.specs.declared.note.GateNote.{GateNote}
+use Rattle.gate_handles.specs.declared.note.GateNote.TheVariants as note
 use Rattle.gate_handles.specs.declared.making.TheConstants.{NAMES, JOINED, GATHERED}
 use Rattle.gate_handles.specs.declared.event.GateEvent.{GateEvent}
 use Rattle.gate_handles.specs.declared.event.GateEvent.TheVariants as event
@@ -52,6 +56,8 @@ pub record GateHeld : Type 0 where
   -- the datagram that is to be sent, and the client to whom
   pub message : Option (List ℕ)
   pub client : Option (List ℕ)
+  -- what the last call tells besides its event
+  pub note : GateNote
 
 -- ---- making one
 
@@ -105,6 +111,7 @@ limits_said said = record {
 pub record IsQuiet (held : GateHeld) : Type 0 where
   pub message : held.message ≡ None
   pub client : held.client ≡ None
+  pub note : held.note ≡ note.Nothing
 
 -- the access rows are those of the text
 pub record IsAccessOf (config : List ℕ) (access : List AccessRow) : Type 0 where
@@ -133,6 +140,21 @@ pub record IsGateOf (config : List ℕ) (boots started : ℕ) (made : GateHeld) 
   pub gate : IsNewGate (begins made.settings.engine boots started users tables).agent made.devices made.gate
   pub quiet : IsQuiet made
 
+-- an agent of this engine with no user, which has these rows
+abbrev pub IsAgentWithoutUsers : List ℕ → Tables → AgentState → Type 0
+IsAgentWithoutUsers engine rows agent = (tables : Tables) × HaveSameRows rows tables
+    × (agent ≡ (begins engine 0 0 [] tables).agent)
+
+-- what the configuration says; the gateway has its engine and its access, but no users and no devices
+pub record IsSaid (config : List ℕ) (made : GateHeld) : Type 0 where
+  pub users : List UserRow
+  pub rows : Tables
+  pub sound : SaysSound config made.settings made.devices made.receivers users rows
+  pub access : made.access ≡ rows.access
+  pub agent : IsAgentWithoutUsers made.settings.engine rows made.gate.agent
+  pub gate : IsNewGate made.gate.agent [] made.gate
+  pub quiet : IsQuiet made
+
 -- the text is refused as a configuration, or there was no memory
 abbrev pub RefusesConfig : List ℕ → CallFault → Type 0
 RefusesConfig config BadConfiguration = (fault : GateFault) × RefusesText config fault
@@ -148,7 +170,15 @@ abbrev pub MakesGate : List ℕ → ℕ → ℕ → Result GateHeld CallFault �
 MakesGate config boots started (Ok made) = IsGateOf config boots started made
 MakesGate config boots started (Err fault) = RefusesGate config boots fault
 
+abbrev pub ReadsGate : List ℕ → Result GateHeld CallFault → Type 0
+ReadsGate config (Ok made) = IsSaid config made
+ReadsGate config (Err fault) = RefusesConfig config fault
+
 -- ---- what stays
+
+-- the datagram that is to be sent, and to whom, and what else is told
+abbrev pub Leaves : GateHeld → Option (List ℕ) → Option (List ℕ) → GateNote → Type 0
+Leaves new to datagram note = (new.client ≡ to) × (new.message ≡ datagram) × (new.note ≡ note)
 
 -- what the configuration says stays
 pub record KeepsSaid (old new : GateHeld) : Type 0 where
@@ -168,7 +198,7 @@ pub record RunsOut (old : GateHeld) (now : ℕ) (told : Result GateEvent CallFau
 -- what is reported of what becomes of it
 abbrev pub TellsClient : ClientTaken → Result GateEvent CallFault → GateHeld → Type 0
 TellsClient (client.Refused refused) told new = (told ≡ Err (Refused refused.why.refusal))
-    × (new.message ≡ option_map (λ v. v.items) refused.report) × (new.client ≡ None)
+    × Leaves new None (option_map (λ v. v.items) refused.report) note.Nothing
 TellsClient (client.Begins number) told new = (told ≡ Ok event.Begins) × (new.request ≡ number) × IsQuiet new
 TellsClient (client.Joins number) told new = (told ≡ Ok event.Joins) × (new.request ≡ number) × IsQuiet new
 TellsClient client.NoRoom told new = (told ≡ Ok event.NoRoom) × IsQuiet new
@@ -189,15 +219,16 @@ TakesClient old now from datagram told new = KeepsSaid old new
 -- ---- what comes from a device
 
 abbrev pub TellsDevice : DeviceTaken → Result GateEvent CallFault → GateHeld → Type 0
-TellsDevice (device.Answers number) told new = (told ≡ Ok event.Answers) × (new.request ≡ number)
-TellsDevice device.NotWaitedFor told new = told ≡ Ok event.NotWaitedFor
-TellsDevice device.Unreadable told new = told ≡ Ok event.Unreadable
+TellsDevice (device.Answers number fault) told new = (told ≡ Ok event.Answers) × (new.request ≡ number)
+    × Leaves new None None (note_of fault)
+TellsDevice device.NotWaitedFor told new = (told ≡ Ok event.NotWaitedFor) × IsQuiet new
+TellsDevice device.Unreadable told new = (told ≡ Ok event.Unreadable) × IsQuiet new
 
 pub record TookDevice (old : GateHeld) (now number : ℕ) (datagram : List ℕ) (told : Result GateEvent CallFault)
     (new : GateHeld) : Type 0 where
   pub taken : DeviceTaken
   pub tells : TellsDevice taken told new
-  pub quiet : IsQuiet new
+  pub fits : IsFitTold old.gate number datagram taken
   pub happens : (since : ℕ) (before : List Happening) → since ≤ now → GateStands since before old.gate
       → DeviceHappens old.gate now before number datagram taken new.gate
 
@@ -207,15 +238,11 @@ TakesDevice old now number datagram told new = KeepsSaid old new
 
 -- ---- what goes out
 
--- the datagram that is to be sent, and to whom
-abbrev pub Leaves : GateHeld → Option (List ℕ) → Option (List ℕ) → Type 0
-Leaves new to datagram = (new.client ≡ to) × (new.message ≡ datagram)
-
 abbrev pub TellsSent : Sent → Result GateEvent CallFault → GateHeld → Type 0
-TellsSent (out.ToClient number to datagram) told new = (told ≡ Ok event.ToClient) × (new.request ≡ number)
-    × Leaves new (Some to.items) (Some datagram.items)
+TellsSent (out.ToClient number to says datagram) told new = (told ≡ Ok event.ToClient) × (new.request ≡ number)
+    × Leaves new (Some to.items) (Some datagram.items) (note_to says)
 TellsSent (out.ToDevice number to datagram) told new = (told ≡ Ok event.ToDevice) × (new.request ≡ number)
-    × (new.device ≡ to) × Leaves new None (Some datagram.items)
+    × (new.device ≡ to) × Leaves new None (Some datagram.items) note.Nothing
 TellsSent (out.Unanswered number why) told new = (told ≡ Ok (event.Unanswered why)) × (new.request ≡ number)
     × IsQuiet new
 TellsSent (out.GivenUp number to) told new = (told ≡ Ok event.GivenUp) × (new.request ≡ number) × (new.device ≡ to)
@@ -237,8 +264,7 @@ SendsNext old now salt ask_id told new = KeepsSaid old new
 
 -- an agent with no user and no row
 abbrev pub IsEmptyAgent : AgentState → Type 0
-IsEmptyAgent agent = (tables : Tables) × HaveSameRows no_rows tables
-    × (agent ≡ (begins (replicate 5 0) 0 0 [] tables).agent)
+IsEmptyAgent agent = IsAgentWithoutUsers (replicate 5 0) no_rows agent
 
 -- no device, no receiver, no user, no row, no request and no datagram
 pub record IsEmpty (new : GateHeld) : Type 0 where

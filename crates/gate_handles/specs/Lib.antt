@@ -1,4 +1,5 @@
 pub mod Events
+pub mod Notes
 pub mod Gates
 pub mod Told
 pub mod Forwards

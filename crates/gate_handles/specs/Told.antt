@@ -19,6 +19,7 @@ use Rattle.snmp_agent.specs.RefusalCounters.{counter_at}
 use Rattle.snmpsec_gate_config.specs.Oddities.{TellsOddity, oddity_words}
 use Rattle.snmpsec_gate_config.specs.Refusals.{RefusesText, SaysSound, refusal_line}
 use Rattle.snmpsec_gate_config.specs.Told.{IsWhy}
+use Rattle.snmpsec_gate_config.specs.Values.{kind_word}
 use Rattle.snmpsec_gate_config.specs.declared.fault.GateFault.{GateFault}
 use Rattle.snmpsec_gate_config.specs.declared.oddity.DeviceOddity.{DeviceOddity}
 use Rattle.snmpsec_gate_config.specs.declared.settings.GateSettings.{GateSettings}
@@ -30,6 +31,7 @@ use Rattle.snmp_handles.specs.Agents.{AreNoArcs}
 use Rattle.vacm_core.specs.Allowed.{Allowed}
 use Rattle.vacm_core.specs.declared.access.Access.{Access}
 use Rattle.vacm_core.specs.declared.access.ViewType.TheVariants.{Notify}
+use Rattle.gate_handles.specs.Notes.{note_numbers}
 use Rattle.snmp_handles.specs.Parts.{Copies, CopiesMessage, CopiesNothing}
 use Rattle.snmp_handles.specs.declared.fault.CallFault.{CallFault}
 use Rattle.snmp_handles.specs.declared.fault.CallFault.TheVariants.{Refused, BadArgument, BadConfiguration}
@@ -46,7 +48,7 @@ setting_of n =
     else if n == 3 then Some setting.Address else
     if n == 4 then Some setting.Note else if n == 5 then Some setting.Traps else
     if n == 6 then Some setting.ReceiverAddress else if n == 7 then Some setting.ReceiverUser else
-    if n == 8 then Some setting.ReceiverLevel else None
+    if n == 8 then Some setting.ReceiverLevel else if n == 9 then Some setting.ReceiverKind else None
 
 -- what is probably a mistake about the device at this position, in words
 abbrev pub IsNote : List DeviceSettings → List AccessRow → ℕ → Option (List ℕ) → Type 0
@@ -73,6 +75,8 @@ IsSetting said devices receivers access setting.ReceiverUser position text =
     text ≡ option_map (λ receiver. receiver.user) (slice_get receivers position)
 IsSetting said devices receivers access setting.ReceiverLevel position text =
     text ≡ option_map (λ receiver. level_word receiver.level) (slice_get receivers position)
+IsSetting said devices receivers access setting.ReceiverKind position text =
+    text ≡ option_map (λ receiver. kind_word receiver.kind) (slice_get receivers position)
 
 -- It is copied; or there is no memory for it.
 abbrev pub ReadsSetting : GateHeld → GateText → ℕ → List ℕ → List ℕ → ℕ → ℕ → Result ⊤ CallFault → Type 0
@@ -96,9 +100,9 @@ MayNotify held receiver device arcs (Err _) = ⊥
 
 -- ---- numbers
 
--- the request and the device that the last call was about, and how many requests wait
+-- the request and the device that the last call was about, how many requests wait, and what the last call told
 abbrev pub numbers_of : GateHeld → List ℕ
-numbers_of held = held.request ∷ held.device ∷ length held.gate.requests.list.items ∷ []
+numbers_of held = held.request ∷ held.device ∷ length held.gate.requests.list.items ∷ note_numbers held.note
 
 -- usmStats n of the agent (RFC 3414, section 5)
 abbrev pub CountsOf : GateHeld → ℕ → Result ℕ CallFault → Type 0

@@ -1,53 +1,83 @@
-//! A forwarder of notifications with what its configuration says, and what came of the last call.
+//! A forwarder of notifications, by Traps and by Informs, with what its configuration says, and what came of the last
+//! call.
 
-ghost use Rattle.std.specs.Prelude.{◌≡◌, ◌≢◌, IfOk, MatchOption, Ok, None, [], map};
+ghost use Rattle.std.specs.Prelude.{◌≡◌, IfOk, Ok, [], map};
 ghost use Rattle.std.specs.Int.{to_be_bytes, w64};
+ghost use Rattle.snmp_forward.specs.Originating.{IsOriginatorDue};
 ghost use Rattle.snmp_forward.specs.Receivers.{IsShort};
 ghost use Rattle.snmp_handles.specs.Parts.{CopiesMessage};
 ghost use Rattle.snmpsec_gate_config.specs.Rows.{HaveOwnContexts};
-ghost use Rattle.gate_handles.specs.Forwards.{EmptiesForwarder, IsNewForwarder, MakesForwarder, SendsOn, TakesTrap};
-ghost use Rattle.gate_handles.specs.Forwards.{TellsForwarded, TellsTrap, forward_numbers_of};
+ghost use Rattle.gate_handles.specs.Forwards.{AreNewInforms, EmptiesForwarder, IsNewForwarder, IsNewOriginator};
+ghost use Rattle.gate_handles.specs.Forwards.{MakesForwarder, SendsOn, TakesReceiver, TakesTrap, TellsOriginated};
+ghost use Rattle.gate_handles.specs.Forwards.{TellsReceiver, TellsTrap, about_inform, about_notification, begun};
+ghost use Rattle.gate_handles.specs.Forwards.{forward_numbers_of, message_number, notify_type_said};
 ghost use Rattle.gate_handles.specs.Forwards.{receiver_parts, receiver_said};
 
 use crate::forward_event::ForwardEvent;
-use crate::handle::{NO_MEMORY, config_of, empty_agent};
-use crate::making::devices_of;
-use engine_clock::EngineId;
+use crate::handle::{NO_MEMORY, config_of, empty_agent, empty_users};
+use crate::making::{INFORMS_LIMIT, devices_of};
+use engine_clock::{Clocks, EngineId};
 use snmp_agent::Agent;
 use snmp_ber::MAX_INTEGER32;
-use snmp_forward::{Forwarded, Forwarder, Receiver, Receivers, TrapTaken, WAITING_LIMIT};
+use snmp_forward::{
+    Forwarder, InformLimits, Informs, NotifyType, Originated, Originator, Receiver, ReceiverTaken,
+    Receivers, TrapTaken, WAITING_LIMIT,
+};
 use snmp_gate::Devices;
 use snmp_handles::{CallFault, copied_message};
-use snmpsec_gate_config::{DeviceSettings, GateConfig, ReceiverSettings};
+use snmp_manager::Manager;
+use snmp_requests::SentMessage;
+use snmpsec_gate_config::{DeviceSettings, GateConfig, ReceiverKind, ReceiverSettings};
 use std::alloc::{AllocError, Global};
 use std::marker::Model;
+use usm_core::Users;
 
 /// A forwarder of notifications, and what came of the last call.
 #[derive(Drop)]
 pub struct ForwardHandle {
     pub(crate) alloc: Global,
-    pub(crate) forwarder: Forwarder,
+    pub(crate) originator: Originator,
     pub(crate) number: u64,
     pub(crate) receiver: usize,
+    pub(crate) inform: u64,
+    /// What was sent for the Inform, if the last call sent something.
+    pub(crate) sent: Option<SentMessage>,
+    /// The counter that the receiver's engine reported, 1 to 9, or 0.
+    pub(crate) counter: u8,
     pub(crate) message: Option<Vec<u8>>,
 }
 
 impl Model for ForwardHandle {
     ghost use Rattle.std.specs.Prelude.{option_map};
     ghost use Rattle.std.specs.Coded.{codes};
-    ghost use Rattle.snmp_forward.specs.contracts.forwarder.Forwarder as forwarders;
+    ghost use Rattle.snmp_forward.specs.contracts.originator.Originator as originators;
     ghost use Rattle.gate_handles.specs.Forwards.{ForwardHeld};
 
     ghost Value = { ForwardHeld };
 
-    ghost coded = { Prim.hlevel (codes, forwarders.the_row.coded) };
+    ghost coded = { Prim.hlevel (codes, originators.the_row.coded) };
 
     ghost view = { λ h. record {
-      forwarder = h.forwarder;
-      number = h.number;
-      receiver = h.receiver;
-      message = option_map (λ v. v.items) h.message;
+      originator = h.originator;
+      noted = record {
+        number = h.number;
+        receiver = h.receiver;
+        inform = h.inform;
+        sent = h.sent;
+        counter = h.counter;
+        message = option_map (λ v. v.items) h.message;
+      };
     } };
+}
+
+/// Returns how a receiver is notified.
+fn notify_type_of(kind: ReceiverKind) -> NotifyType
+    ensures { result ≡ notify_type_said kind }
+{
+    match kind {
+        ReceiverKind::Trap => NotifyType::Trap,
+        ReceiverKind::Inform => NotifyType::Inform,
+    }
 }
 
 /// Returns a receiver as the configuration says.
@@ -59,6 +89,7 @@ fn receiver_of(alloc: Global, said: &ReceiverSettings) -> Result<Receiver, Alloc
     Ok(Receiver {
         user,
         level: said.level,
+        notify_type: notify_type_of(said.kind),
     })
 }
 
@@ -99,6 +130,52 @@ fn forwarder_of(
     Ok(Forwarder::new(alloc, agent, engine, devices, receivers, WAITING_LIMIT))
 }
 
+/// Returns that no Inform waits to be sent from this engine, with these users. No clock of a receiver's engine is held.
+fn informs_of(alloc: Global, engine: EngineId, users: Users) -> Informs
+    ensures { AreNewInforms engine users.users result }
+{
+    let manager = Manager::new(alloc, users, Clocks::new(alloc));
+    Informs::new(
+        alloc,
+        engine,
+        manager,
+        INFORMS_LIMIT,
+        InformLimits::default(),
+    )
+}
+
+/// Returns a forwarder with this agent, whose engine ID and whose users are given, of notifications of devices to
+/// receivers that a configuration says, by Traps and by Informs.
+fn originator_of(
+    alloc: Global,
+    agent: Agent,
+    engine: EngineId,
+    users: Users,
+    devices: &[DeviceSettings],
+    receivers: &[ReceiverSettings],
+) -> Result<Originator, AllocError>
+    requires contexts { HaveOwnContexts devices.now }
+    requires engine { engine ≡ agent.engine }
+    ensures { IfOk result (IsNewOriginator agent users.users devices.now receivers.now) }
+{
+    let own = engine.copy();
+    let forwarder = forwarder_of(alloc, agent, engine, devices, receivers)?;
+    Ok(Originator::new(forwarder, informs_of(alloc, own, users)))
+}
+
+/// Returns the number of what was sent for an Inform: 1 the discovery, 2 the request for the time of the receiver's
+/// engine, 3 the Inform itself; 0 nothing.
+fn message_number(sent: Option<SentMessage>) -> u64
+    ensures { result ≡ message_number sent }
+{
+    match sent {
+        None => 0,
+        Some(SentMessage::Discovery) => 1,
+        Some(SentMessage::TimeRequest) => 2,
+        Some(SentMessage::Request) => 3,
+    }
+}
+
 impl ForwardHandle {
     /// Returns a forwarder of this configuration, in TOML, with these boots, whose agent started at the moment
     /// `started`, in seconds. No datagram has reached it. Its users have keys of their own, so it takes as long as to
@@ -125,15 +202,21 @@ impl ForwardHandle {
             access: tables,
         } = said;
         let engine = settings.engine;
+        let Ok(own) = users.try_clone() else {
+            return Err(NO_MEMORY);
+        };
         let agent = Agent::new(alloc, engine.copy(), boots, started, users, tables);
-        let Ok(forwarder) = forwarder_of(alloc, agent, engine, &devices, &receivers) else {
+        let Ok(originator) = originator_of(alloc, agent, engine, own, &devices, &receivers) else {
             return Err(NO_MEMORY);
         };
         Ok(ForwardHandle {
             alloc,
-            forwarder,
+            originator,
             number: 0,
             receiver: 0,
+            inform: 0,
+            sent: None,
+            counter: 0,
             message: None,
         })
     }
@@ -144,26 +227,38 @@ impl ForwardHandle {
         ensures { EmptiesForwarder self.old result self.new }
     {
         let agent = empty_agent(self.alloc)?;
+        let users = empty_users(self.alloc)?;
         let Some(engine) = EngineId::of(&[0; 5]) else {
             unreachable!();
         };
         let devices = Vec::new(self.alloc);
         let receivers = Vec::new(self.alloc);
-        let Ok(forwarder) = forwarder_of(self.alloc, agent, engine, &devices, &receivers) else {
+        let Ok(originator) = originator_of(self.alloc, agent, engine, users, &devices, &receivers)
+        else {
             return Err(NO_MEMORY);
         };
-        self.forwarder = forwarder;
-        self.message = None;
+        self.originator = originator;
+        self.begin_call();
         Ok(())
     }
 
-    /// Takes a datagram from the device of this number, counted from 0, as `Forwarder::take_trap` does. Nothing is to
+    /// Nothing has come of the call that begins, and nothing is to be sent.
+    fn begin_call(&mut self)
+        ensures originator { self.new.originator ≡ self.old.originator }
+        ensures noted { self.new.noted ≡ begun self.old.noted }
+    {
+        self.sent = None;
+        self.counter = 0;
+        self.message = None;
+    }
+
+    /// Takes a datagram from the device of this number, counted from 0, as `Originator::take_trap` does. Nothing is to
     /// be sent. The error is out of memory: then the datagram isn't taken, and may be taken again.
     pub fn take_trap(&mut self, device: usize, datagram: &[u8]) -> Result<ForwardEvent, CallFault>
         ensures { TakesTrap self.old device datagram.now result self.new }
     {
-        self.message = None;
-        match self.forwarder.take_trap(device, datagram) {
+        self.begin_call();
+        match self.originator.take_trap(device, datagram) {
             Ok(taken) => Ok(self.took_trap(taken)),
             Err(_) => Err(NO_MEMORY),
         }
@@ -171,10 +266,8 @@ impl ForwardHandle {
 
     /// Returns what is reported of what became of a device's datagram.
     fn took_trap(&mut self, taken: TrapTaken) -> ForwardEvent
-        requires { self.old.message ≡ None }
-        ensures tells { TellsTrap taken (Ok result) self.new }
-        ensures quiet { self.new.message ≡ None }
-        ensures forwarder { self.new.forwarder ≡ self.old.forwarder }
+        ensures tells { TellsTrap taken (Ok result) self.old.noted self.new.noted }
+        ensures originator { self.new.originator ≡ self.old.originator }
     {
         match taken {
             TrapTaken::NotNotification(why) => ForwardEvent::NotNotification(why),
@@ -188,74 +281,207 @@ impl ForwardHandle {
         }
     }
 
-    /// Sends the notification that waits longest to the next of its receivers at this moment, in milliseconds, as
-    /// `Forwarder::next` does, and leaves the datagram to be sent, if there is one. The error is out of memory: then
-    /// the call may be made again.
+    /// Takes a datagram from the receiver of this number, counted from 0, at this moment, in milliseconds, as
+    /// `Originator::take_receiver` does. Nothing is to be sent.
+    ///
+    /// The errors are the refusals of `Manager::take`, and out of memory: then the datagram isn't taken, and may be
+    /// taken again.
+    pub fn take_receiver(
+        &mut self,
+        now: u64,
+        receiver: usize,
+        datagram: &[u8],
+    ) -> Result<ForwardEvent, CallFault>
+        ensures { TakesReceiver self.old now receiver datagram.now result self.new }
+    {
+        self.begin_call();
+        match self.originator.take_receiver(now, receiver, datagram) {
+            Ok(taken) => self.took_receiver(taken),
+            Err(_) => Err(NO_MEMORY),
+        }
+    }
+
+    /// Returns what is reported of what became of a receiver's datagram.
+    fn took_receiver(&mut self, taken: ReceiverTaken) -> Result<ForwardEvent, CallFault>
+        ensures tells { TellsReceiver taken result self.old.noted self.new.noted }
+        ensures originator { self.new.originator ≡ self.old.originator }
+    {
+        match taken {
+            ReceiverTaken::Refused(why) => Err(CallFault::Refused(why)),
+            ReceiverTaken::NoAnswer => Ok(ForwardEvent::NoAnswer),
+            ReceiverTaken::Heard(inform) => {
+                self.inform = inform;
+                Ok(ForwardEvent::Heard)
+            }
+            ReceiverTaken::Acknowledged(inform) => {
+                self.inform = inform;
+                Ok(ForwardEvent::Acknowledged)
+            }
+            ReceiverTaken::Denied { number, counter } => {
+                self.inform = number;
+                self.counter = counter;
+                Ok(ForwardEvent::Denied)
+            }
+        }
+    }
+
+    /// Does the first thing that is to be done at this moment, in milliseconds, as `Originator::next` does, and leaves
+    /// the datagram to be sent, if there is one. The error is out of memory: then the call may be made again.
     pub fn next(&mut self, now: u64, salt: u64, ask_id: u32) -> Result<ForwardEvent, CallFault>
         ensures { SendsOn self.old now (to_be_bytes w64 salt) ask_id result self.new }
     {
-        self.message = None;
-        match self.forwarder.next(now, salt.to_be_bytes(), ask_id) {
-            Ok(sent) => Ok(self.note_sent(sent)),
+        self.begin_call();
+        match self.originator.next(now, salt.to_be_bytes(), ask_id) {
+            Ok(what) => Ok(self.note_sent(what)),
             Err(_) => Err(NO_MEMORY),
         }
     }
 
     /// Returns what is reported of what goes out.
-    fn note_sent(&mut self, sent: Forwarded) -> ForwardEvent
-        requires { self.old.message ≡ None }
-        ensures tells { TellsForwarded sent (Ok result) self.new }
-        ensures forwarder { self.new.forwarder ≡ self.old.forwarder }
+    fn note_sent(&mut self, what: Originated) -> ForwardEvent
+        ensures tells { TellsOriginated what (Ok result) self.old.noted self.new.noted }
+        ensures originator { self.new.originator ≡ self.old.originator }
     {
-        match sent {
-            Forwarded::ToReceiver {
+        match what {
+            Originated::Trap {
                 number,
                 receiver,
                 datagram,
-            } => {
-                self.number = number;
-                self.receiver = receiver;
-                self.message = Some(datagram);
-                ForwardEvent::ToReceiver
-            }
-            Forwarded::Unsent {
+            } => self.note_trap(number, receiver, datagram),
+            Originated::Unsent {
                 number,
                 receiver,
                 why,
-            } => {
-                self.number = number;
-                self.receiver = receiver;
-                ForwardEvent::Unsent(why)
+            } => self.note(number, receiver, ForwardEvent::Unsent(why)),
+            Originated::InformBegins {
+                number,
+                receiver,
+                inform,
+            } => self.note_begun(number, receiver, inform),
+            Originated::NoRoom { number, receiver } => {
+                self.note(number, receiver, ForwardEvent::InformNoRoom)
             }
-            Forwarded::Nothing => ForwardEvent::Nothing,
+            Originated::InformSent {
+                inform,
+                receiver,
+                message,
+                datagram,
+            } => self.note_inform_sent(inform, receiver, message, datagram),
+            Originated::InformUnsent {
+                inform,
+                receiver,
+                why,
+            } => self.note_inform(inform, receiver, ForwardEvent::InformUnsent(why)),
+            Originated::InformGivenUp {
+                inform,
+                receiver,
+                hint,
+            } => self.note_given_up(inform, receiver, hint),
+            Originated::Nothing => ForwardEvent::Nothing,
         }
     }
 
-    /// Returns the moment, in milliseconds, from which on `next` has something to do: 0 if a notification waits.
-    pub fn due(&self) -> Option<u64>
-        ensures { MatchOption result (self.now.forwarder.waiting.list.items ≡ [])
-            (λ at. (at ≡ 0) × (self.now.forwarder.waiting.list.items ≢ [])) }
+    /// A Trap goes to a receiver. Returns what is reported.
+    fn note_trap(&mut self, number: u64, receiver: usize, datagram: Vec<u8>) -> ForwardEvent
+        ensures tells { TellsOriginated (Originated.Trap number receiver datagram) (Ok result) self.old.noted
+            self.new.noted }
+        ensures originator { self.new.originator ≡ self.old.originator }
     {
-        self.forwarder.due()
+        self.message = Some(datagram);
+        self.note(number, receiver, ForwardEvent::ToReceiver)
+    }
+
+    /// A notification begins to wait for a receiver's acknowledgement. Returns what is reported.
+    fn note_begun(&mut self, number: u64, receiver: usize, inform: u64) -> ForwardEvent
+        ensures tells { TellsOriginated (Originated.InformBegins number receiver inform) (Ok result) self.old.noted
+            self.new.noted }
+        ensures originator { self.new.originator ≡ self.old.originator }
+    {
+        self.inform = inform;
+        self.note(number, receiver, ForwardEvent::InformBegins)
+    }
+
+    /// A datagram goes to the receiver of an Inform. Returns what is reported.
+    fn note_inform_sent(
+        &mut self,
+        inform: u64,
+        receiver: usize,
+        message: SentMessage,
+        datagram: Vec<u8>,
+    ) -> ForwardEvent
+        ensures tells { TellsOriginated (Originated.InformSent inform receiver message datagram) (Ok result)
+            self.old.noted self.new.noted }
+        ensures originator { self.new.originator ≡ self.old.originator }
+    {
+        self.sent = Some(message);
+        self.message = Some(datagram);
+        self.note_inform(inform, receiver, ForwardEvent::InformToReceiver)
+    }
+
+    /// An Inform has ended without an answer. Returns what is reported.
+    fn note_given_up(&mut self, inform: u64, receiver: usize, hint: Option<u8>) -> ForwardEvent
+        ensures tells { TellsOriginated (Originated.InformGivenUp inform receiver hint) (Ok result) self.old.noted
+            self.new.noted }
+        ensures originator { self.new.originator ≡ self.old.originator }
+    {
+        self.counter = hint.unwrap_or(0);
+        self.note_inform(inform, receiver, ForwardEvent::InformGivenUp)
+    }
+
+    /// The call was about this notification and this receiver. Returns what is reported.
+    fn note(&mut self, number: u64, receiver: usize, event: ForwardEvent) -> ForwardEvent
+        ensures event { result ≡ event }
+        ensures noted { self.new.noted ≡ about_notification number receiver self.old.noted }
+        ensures originator { self.new.originator ≡ self.old.originator }
+    {
+        self.number = number;
+        self.receiver = receiver;
+        event
+    }
+
+    /// The call was about this Inform and this receiver. Returns what is reported.
+    fn note_inform(&mut self, inform: u64, receiver: usize, event: ForwardEvent) -> ForwardEvent
+        ensures event { result ≡ event }
+        ensures noted { self.new.noted ≡ about_inform inform receiver self.old.noted }
+        ensures originator { self.new.originator ≡ self.old.originator }
+    {
+        self.inform = inform;
+        self.receiver = receiver;
+        event
+    }
+
+    /// Returns the moment, in milliseconds, from which on `next` has something to do by time alone: 0 if a notification
+    /// waits to be sent.
+    pub fn due(&self) -> Option<u64>
+        ensures { IsOriginatorDue self.now.originator result }
+    {
+        self.originator.due()
     }
 
     /// Copies what is to be sent to the front of the buffer, and tells how many octets it has. The errors are
     /// NothingTaken, if nothing is to be sent, and ShortBuffer.
     pub fn message(&self, out: &mut [u8], written: &mut usize) -> Result<(), CallFault>
-        ensures { CopiesMessage self.now.message out.old out.new written.old written.new result }
+        ensures { CopiesMessage self.now.noted.message out.old out.new written.old written.new result }
     {
         copied_message(&self.message, out, written)
     }
 
-    /// Returns the number of the notification that the last call was about, that of the receiver, and how many
-    /// notifications wait.
-    pub fn numbers(&self) -> [u64; 3]
+    /// Returns the numbers of the last call: that of the notification and that of the receiver that it was about; how
+    /// many notifications wait to be sent; that of the Inform that it was about; how many Informs wait; which message
+    /// was sent for the Inform, 1 the discovery, 2 the request for the time of the receiver's engine, 3 the Inform
+    /// itself; and which counter that engine reported, 1 to 9. What a call isn't about stays, but the message and the
+    /// counter are 0 then.
+    pub fn numbers(&self) -> [u64; 7]
         ensures { result ≡ forward_numbers_of self.now }
     {
         [
             self.number,
             self.receiver as u64,
-            self.forwarder.waiting() as u64,
+            self.originator.waiting() as u64,
+            self.inform,
+            self.originator.informs() as u64,
+            message_number(self.sent),
+            u64::from(self.counter),
         ]
     }
 }

@@ -26,12 +26,31 @@ pub enum ForwardEvent {
     ToReceiver,
     /// A notification isn't sent to a receiver, for this reason.
     Unsent(Refusal),
+    /// A receiver's datagram is no answer to what is waited for.
+    NoAnswer,
+    /// A receiver's datagram is an answer to what was sent last for an Inform, which goes on.
+    Heard,
+    /// An Inform is acknowledged.
+    Acknowledged,
+    /// The receiver's engine refused what was sent for an Inform, which has ended.
+    Denied,
+    /// A notification begins to wait for its acknowledgement, as an Inform.
+    InformBegins,
+    /// A datagram goes to a receiver for an Inform.
+    InformToReceiver,
+    /// A notification isn't sent to a receiver: as many Informs wait as may.
+    InformNoRoom,
+    /// An Inform has ended without an answer.
+    InformGivenUp,
+    /// An Inform has ended: nothing can be sealed for the receiver's user, for this reason.
+    InformUnsent(Refusal),
 }
 
 impl ForwardEvent {
     /// Returns the event's number: 0 nothing; 20 no message of SNMPv2c, 21 no SNMPv2-Trap, 22 no snmpTrapOID.0; 23
     /// another community, 24 for nobody, 25 no room, 26 waits, 27 to a receiver; or unsent for this reason, 30 and the
-    /// number of the refusal, 31 to 48.
+    /// number of the refusal, 31 to 48. Of Informs: 50 no answer, 51 heard, 52 acknowledged, 53 denied, 54 begins, 55
+    /// to a receiver, 56 no room, 57 given up; or unsent for this reason, 60 and the number of the refusal, 61 to 78.
     pub fn number(self) -> i32
         ensures { result ≡ forward_number self }
     {
@@ -46,6 +65,15 @@ impl ForwardEvent {
             ForwardEvent::Waits => 26,
             ForwardEvent::ToReceiver => 27,
             ForwardEvent::Unsent(refusal) => 30 + i32::from(refusal.number()),
+            ForwardEvent::NoAnswer => 50,
+            ForwardEvent::Heard => 51,
+            ForwardEvent::Acknowledged => 52,
+            ForwardEvent::Denied => 53,
+            ForwardEvent::InformBegins => 54,
+            ForwardEvent::InformToReceiver => 55,
+            ForwardEvent::InformNoRoom => 56,
+            ForwardEvent::InformGivenUp => 57,
+            ForwardEvent::InformUnsent(refusal) => 60 + i32::from(refusal.number()),
         }
     }
 }

@@ -4,17 +4,19 @@ ghost use Rattle.std.specs.Prelude.{◌≡◌, ℕ, List, [], string_bytes, Ok, 
 ghost use Rattle.std.specs.Int.{to_be_bytes, w64};
 ghost use Rattle.snmp_message.specs.declared.refusal.Refusal.TheVariants.{OutOfMemory};
 ghost use Rattle.snmp_agent.specs.Counts.{count_at};
-ghost use Rattle.snmpsec_gate_config.specs.Refusals.{Loads, Refuses};
+ghost use Rattle.vacm_core.specs.Tables.{tables_of};
+ghost use Rattle.snmpsec_gate_config.specs.Refusals.{Loads, Refuses, SaysSound};
 ghost use Rattle.snmpsec_gate_config.specs.Rows.{HaveOwnContexts};
 ghost use Rattle.snmp_handles.specs.Parts.{CopiesMessage};
 ghost use Rattle.snmp_handles.specs.declared.fault.CallFault.TheVariants.{Refused};
 ghost use Rattle.gate_handles.specs.Gates.{MakesGate, RefusesConfig, IsAccessOf, IsNewGate, IsEmptyAgent, Empties};
 ghost use Rattle.gate_handles.specs.Gates.{KeepsSaid, IsQuiet, TakesClient, TellsClient, TakesDevice, SendsNext};
-ghost use Rattle.gate_handles.specs.Gates.{TellsDevice, TellsSent};
+ghost use Rattle.gate_handles.specs.Gates.{IsAgentWithoutUsers, ReadsGate, TellsDevice, TellsSent};
 ghost use Rattle.gate_handles.specs.Told.{CountsOf, MayNotify, ReadsSetting, numbers_of};
 
 use crate::event::GateEvent;
 use crate::making::{devices_of, limits_of};
+use crate::note::GateNote;
 use crate::setting::{GateText, setting_text};
 use engine_clock::EngineId;
 use snmp_agent::Agent;
@@ -44,6 +46,7 @@ pub struct GateHandle {
     pub(crate) device: usize,
     pub(crate) message: Option<Vec<u8>>,
     pub(crate) client: Option<Vec<u8>>,
+    pub(crate) note: GateNote,
 }
 
 impl Model for GateHandle {
@@ -66,6 +69,7 @@ impl Model for GateHandle {
       device = h.device;
       message = option_map (λ v. v.items) h.message;
       client = option_map (λ v. v.items) h.client;
+      note = h.note;
     } };
 }
 
@@ -83,19 +87,27 @@ fn fault_of(fault: &GateFault) -> CallFault
     }
 }
 
+/// Returns what a configuration says, and its rows.
+fn rows_of(alloc: Global, config: &[u8]) -> Result<GateRows, CallFault>
+    ensures says { IfOk result (λ said. SaysSound config.now said.gate said.devices.items
+        said.receivers.items said.rows.users.items (tables_of said.rows.access)) }
+    ensures refuses { IfErr result (RefusesConfig config.now) }
+{
+    match GateRows::read(alloc, config) {
+        Ok(said) => Ok(said),
+        Err(fault) => Err(fault_of(&fault)),
+    }
+}
+
 /// Returns the access rows that a configuration says.
 fn access_of(alloc: Global, config: &[u8]) -> Result<Vec<AccessRow>, CallFault>
     ensures access { IfOk result (λ access. IsAccessOf config.now access.items) }
     ensures refuses { IfErr result (RefusesConfig config.now) }
 {
-    match GateRows::read(alloc, config) {
-        Ok(said) => {
-            let rows = said.rows;
-            let tables = rows.access;
-            Ok(tables.access)
-        }
-        Err(fault) => Err(fault_of(&fault)),
-    }
+    let said = rows_of(alloc, config)?;
+    let rows = said.rows;
+    let tables = rows.access;
+    Ok(tables.access)
 }
 
 /// Returns what a configuration says.
@@ -128,6 +140,31 @@ fn gate_of(
     Gate::new(alloc, agent, devices, limits_of(said))
 }
 
+/// Returns no users.
+pub(crate) fn empty_users(alloc: Global) -> Result<Users, CallFault>
+    ensures users { IfOk result (λ users. users.users ≡ []) }
+    ensures no_memory { IfErr result (λ fault. fault ≡ Refused OutOfMemory) }
+{
+    let rows: Vec<UserRow> = Vec::new(alloc);
+    match Users::load(alloc, &rows) {
+        Ok(users) => Ok(users),
+        Err(_) => Err(NO_MEMORY),
+    }
+}
+
+/// Returns an agent of this engine without users, which has these rows. Where they can't be loaded, it answers that
+/// memory ran out: they are of a configuration, in which none is at fault.
+fn agent_without_users(alloc: Global, engine: EngineId, rows: &Rows) -> Result<Agent, CallFault>
+    ensures agent { IfOk result (IsAgentWithoutUsers engine (tables_of rows.now)) }
+    ensures no_memory { IfErr result (λ fault. fault ≡ Refused OutOfMemory) }
+{
+    let users = empty_users(alloc)?;
+    let Ok(tables) = Vacm::load(alloc, rows) else {
+        return Err(NO_MEMORY);
+    };
+    Ok(Agent::new(alloc, engine, 0, 0, users, tables))
+}
+
 /// Returns an agent without users and rows.
 pub(crate) fn empty_agent(alloc: Global) -> Result<Agent, CallFault>
     ensures agent { IfOk result IsEmptyAgent }
@@ -136,20 +173,13 @@ pub(crate) fn empty_agent(alloc: Global) -> Result<Agent, CallFault>
     let Some(engine) = EngineId::of(&[0; 5]) else {
         unreachable!();
     };
-    let users: Vec<UserRow> = Vec::new(alloc);
     let rows = Rows {
         contexts: Vec::new(alloc),
         groups: Vec::new(alloc),
         access: Vec::new(alloc),
         families: Vec::new(alloc),
     };
-    let Ok(users) = Users::load(alloc, &users) else {
-        return Err(NO_MEMORY);
-    };
-    let Ok(tables) = Vacm::load(alloc, &rows) else {
-        return Err(NO_MEMORY);
-    };
-    Ok(Agent::new(alloc, engine, 0, 0, users, tables))
+    agent_without_users(alloc, engine, &rows)
 }
 
 /// Returns what a configuration without addresses would say.
@@ -216,6 +246,43 @@ impl GateHandle {
             device: 0,
             message: None,
             client: None,
+            note: GateNote::Nothing,
+        })
+    }
+
+    /// Returns what this configuration says, in TOML, for `setting` and `may_notify`, in less time than a gateway
+    /// takes: no password is hashed. Its gateway has no users and no devices, and answers nobody. It refuses what `of`
+    /// refuses as a configuration.
+    ///
+    /// The errors are BadConfiguration and out of memory.
+    pub fn read(alloc: Global, config: &[u8]) -> Result<GateHandle, CallFault>
+        ensures { ReadsGate config.now result }
+    {
+        let said = rows_of(alloc, config)?;
+        let GateRows {
+            gate: settings,
+            devices,
+            receivers,
+            rows,
+        } = said;
+        let agent = agent_without_users(alloc, settings.engine.copy(), &rows.access)?;
+        let none = Vec::new(alloc);
+        let Ok(gate) = gate_of(alloc, agent, &settings, &none) else {
+            return Err(NO_MEMORY);
+        };
+        let tables = rows.access;
+        Ok(GateHandle {
+            alloc,
+            gate,
+            settings,
+            devices,
+            receivers,
+            access: tables.access,
+            request: 0,
+            device: 0,
+            message: None,
+            client: None,
+            note: GateNote::Nothing,
         })
     }
 
@@ -237,6 +304,7 @@ impl GateHandle {
         self.access = Vec::new(self.alloc);
         self.message = None;
         self.client = None;
+        self.note = GateNote::Nothing;
         Ok(())
     }
 
@@ -255,6 +323,7 @@ impl GateHandle {
     {
         self.message = None;
         self.client = None;
+        self.note = GateNote::Nothing;
         match self.gate.take_client(now, client, datagram) {
             Ok(taken) => self.took_client(taken),
             Err(_) => Err(NO_MEMORY),
@@ -299,6 +368,7 @@ impl GateHandle {
     {
         self.message = None;
         self.client = None;
+        self.note = GateNote::Nothing;
         match self.gate.take_device(now, device, datagram) {
             Ok(taken) => Ok(self.took_device(taken)),
             Err(_) => Err(NO_MEMORY),
@@ -309,13 +379,13 @@ impl GateHandle {
     fn took_device(&mut self, taken: DeviceTaken) -> GateEvent
         requires { IsQuiet self.old }
         ensures tells { TellsDevice taken (Ok result) self.new }
-        ensures quiet { IsQuiet self.new }
         ensures keeps { KeepsSaid self.old self.new }
         ensures gate { self.new.gate ≡ self.old.gate }
     {
         match taken {
-            DeviceTaken::Answers(number) => {
+            DeviceTaken::Answers { number, fault } => {
                 self.request = number;
+                self.note = GateNote::of_answer(fault);
                 GateEvent::Answers
             }
             DeviceTaken::NotWaitedFor => GateEvent::NotWaitedFor,
@@ -330,6 +400,7 @@ impl GateHandle {
     {
         self.message = None;
         self.client = None;
+        self.note = GateNote::Nothing;
         match self.gate.next(now, salt.to_be_bytes(), ask_id) {
             Ok(sent) => Ok(self.note_sent(sent)),
             Err(_) => Err(NO_MEMORY),
@@ -347,10 +418,12 @@ impl GateHandle {
             Sent::ToClient {
                 number,
                 client,
+                says,
                 datagram,
             } => {
                 self.request = number;
                 self.client = Some(client);
+                self.note = GateNote::to_client(says);
                 self.message = Some(datagram);
                 GateEvent::ToClient
             }
@@ -453,11 +526,27 @@ impl GateHandle {
     }
 
     /// Returns the number of the request that the last call was about, that of the device, and how many requests
-    /// wait.
-    pub fn numbers(&self) -> [u64; 3]
+    /// wait. Behind these stands what the last call told, and 0 for what it didn't: of a Response that goes to a
+    /// client error-status and error-index; 1 for a Report that goes to one; and of a device's answer why its bindings
+    /// don't answer what it was asked, and the number of the first such binding, counted from 1.
+    ///
+    /// Why: 1 it has too few bindings, 2 too many, 3 one of another name, 4 one of a name that isn't after the one
+    /// asked, 5 one without a value, 6 one with a value behind endOfMibView.
+    pub fn numbers(&self) -> [u64; 8]
         ensures { result ≡ numbers_of self.now }
     {
-        [self.request, self.device as u64, self.gate.waiting() as u64]
+        let [status, index, report, misfit, binding] = self.note.numbers();
+        let (device, waiting) = (self.device as u64, self.gate.waiting() as u64);
+        [
+            self.request,
+            device,
+            waiting,
+            status,
+            index,
+            report,
+            misfit,
+            binding,
+        ]
     }
 
     /// Returns counter n of the agent, usmStats n of RFC 3414, section 5. The error is BadArgument, if n isn't 1 to

@@ -24,6 +24,7 @@ mod forward;
 mod forward_event;
 mod handle;
 mod making;
+mod note;
 mod setting;
 mod told;
 
@@ -31,6 +32,6 @@ pub use event::{GateEvent, event_code_of};
 pub use forward::ForwardHandle;
 pub use forward_event::{ForwardEvent, forward_code_of};
 pub use handle::GateHandle;
-pub use making::{GATHERED, JOINED, NAMES};
+pub use making::{GATHERED, INFORMS_LIMIT, JOINED, NAMES};
 pub use setting::GateText;
 pub use told::{copied_user, tell_gate_config};

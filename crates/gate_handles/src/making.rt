@@ -16,6 +16,9 @@ pub const JOINED: usize = 16;
 /// With more than so many octets of values and arcs of names a GetBulkRequest is answered with what is there.
 pub const GATHERED: usize = 262_028;
 
+/// How many Informs wait at most to be acknowledged.
+pub const INFORMS_LIMIT: usize = 1_024;
+
 /// Returns the limits that the configuration says, and those that it can't say.
 pub(crate) fn limits_of(said: &GateSettings) -> GateLimits
     ensures { result ≡ limits_said said.now }

@@ -3,11 +3,14 @@
 ghost use Rattle.std.specs.Prelude.{◌≡◌, IfOk, Some, option_map, slice_get};
 ghost use Rattle.std.specs.Net.Text.{socket_text};
 ghost use Rattle.snmpsec_gate_config.specs.Oddities.{oddity_words};
+ghost use Rattle.snmpsec_gate_config.specs.Values.{kind_word};
 ghost use Rattle.snmpsec_config.specs.Words.{level_word};
 ghost use Rattle.gate_handles.specs.Told.{IsNote, IsSetting, setting_of};
 
 use snmpsec_config::level_word;
-use snmpsec_gate_config::{DeviceOddity, DeviceSettings, GateSettings, ReceiverSettings};
+use snmpsec_gate_config::{
+    DeviceOddity, DeviceSettings, GateSettings, ReceiverKind, ReceiverSettings,
+};
 use std::alloc::{AllocError, Global};
 use std::net::SocketAddr;
 use vacm_core::AccessRow;
@@ -33,11 +36,13 @@ pub enum GateText {
     ReceiverUser,
     /// The level at which a receiver's notifications are sealed.
     ReceiverLevel,
+    /// How a receiver is notified.
+    ReceiverKind,
 }
 
 impl GateText {
     /// Returns the setting of this number: 0 boots, 1 listen, 2 context, 3 address, 4 note, 5 traps, 6 the
-    /// address of a receiver, 7 its user, 8 its level.
+    /// address of a receiver, 7 its user, 8 its level, 9 how it is notified.
     pub fn of(number: u32) -> Option<GateText>
         ensures { result ≡ setting_of number }
     {
@@ -51,6 +56,7 @@ impl GateText {
             6 => Some(GateText::ReceiverAddress),
             7 => Some(GateText::ReceiverUser),
             8 => Some(GateText::ReceiverLevel),
+            9 => Some(GateText::ReceiverKind),
             _ => None,
         }
     }
@@ -187,6 +193,32 @@ fn level_text(
     Ok(Some(text))
 }
 
+/// Returns the word by which a configuration says how a receiver is notified.
+fn kind_word(kind: ReceiverKind) -> &'static str
+    ensures { result.now ≡ kind_word kind }
+{
+    match kind {
+        ReceiverKind::Trap => "trap",
+        ReceiverKind::Inform => "inform",
+    }
+}
+
+/// Returns the word for how the receiver at this position is notified.
+fn kind_text(
+    alloc: Global,
+    receivers: &[ReceiverSettings],
+    position: usize,
+) -> Result<Option<Vec<u8>>, AllocError>
+    ensures { IfOk result (λ text. option_map (λ v. v.items) text
+        ≡ option_map (λ receiver. kind_word receiver.kind) (slice_get receivers.now position)) }
+{
+    let Some(receiver) = receivers.get(position) else {
+        return Ok(None);
+    };
+    let text = Vec::from_slice(alloc, kind_word(receiver.kind).as_bytes())?;
+    Ok(Some(text))
+}
+
 /// Returns what the configuration says at this position. None: it says nothing there.
 pub(crate) fn setting_text(
     alloc: Global,
@@ -213,5 +245,6 @@ pub(crate) fn setting_text(
         GateText::ReceiverAddress => receiver_text(alloc, receivers, position),
         GateText::ReceiverUser => user_text(alloc, receivers, position),
         GateText::ReceiverLevel => level_text(alloc, receivers, position),
+        GateText::ReceiverKind => kind_text(alloc, receivers, position),
     }
 }

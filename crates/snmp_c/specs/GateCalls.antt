@@ -1,9 +1,9 @@
 -- What the calls on a gateway answer and leave.
 --
--- `MakesGateway`: the answer of `_new`. `TakesFromClient`, `TakesFromDevice`, `SendsDue`: the answer is the number of
--- what becomes of a datagram and of what goes out (`Eventful`). `TellsDue`, `TellsDatagram`, `TellsClientOf`,
--- `TellsSetting`, `TellsMayNotify`, `TellsNumbersOf`, `GateCounter`, `GateCount`, `ClearsGate`: what each export
--- answers and leaves. `TellsGateConfiguration`, `TellsUser`: those without a handle.
+-- `MakesGateway`: the answer of `_new`; `ReadsConfiguration`: that of `_read`. `TakesFromClient`, `TakesFromDevice`,
+-- `SendsDue`: the answer is the number of what becomes of a datagram and of what goes out (`Eventful`). `TellsDue`,
+-- `TellsDatagram`, `TellsClientOf`, `TellsSetting`, `TellsMayNotify`, `TellsNumbersOf`, `GateCounter`, `GateCount`,
+-- `ClearsGate`: what each export answers and leaves. `TellsGateConfiguration`, `TellsUser`: those without a handle.
 use Rattle.std.specs.Prelude.{◌≡◌, ◌≤◌, ◌<◌, ◌⊎◌, ℕ, ℤ, pos, List, ◌++◌, length, drop, MatchOption, Result}
 use Rattle.std.specs.Int.{to_be_bytes, w64}
 use Rattle.snmp_agent.specs.Counts.{count_at}
@@ -13,7 +13,7 @@ use Rattle.snmp_handles.specs.Parts.{CopiesMessage, CopiesNothing}
 use Rattle.snmp_handles.specs.declared.fault.CallFault.{CallFault}
 use Rattle.snmp_handles.specs.declared.fault.CallFault.TheVariants.{BadArgument, NothingTaken, ShortBuffer}
 use Rattle.gate_handles.specs.Events.{event_code}
-use Rattle.gate_handles.specs.Gates.{GateHeld, MakesGate, TakesClient, TakesDevice, SendsNext, Empties}
+use Rattle.gate_handles.specs.Gates.{GateHeld, MakesGate, ReadsGate, TakesClient, TakesDevice, SendsNext, Empties}
 use Rattle.gate_handles.specs.Told.{setting_of, ReadsSetting, MayNotify, CountsOf, TellsGate, CopiesUser}
 use Rattle.gate_handles.specs.Told.{numbers_of}
 use Rattle.vacm_core.specs.declared.access.Access.{Access}
@@ -27,6 +27,9 @@ Eventful Says answer = (told : Result GateEvent CallFault) × (answer ≡ event_
 abbrev pub MakesGateway : List ℕ → ℕ → ℕ → ℤ → Type 0
 MakesGateway config boots started answer = (told : Result GateHeld CallFault) × (answer ≡ code told)
     × MakesGate config boots started told
+
+abbrev pub ReadsConfiguration : List ℕ → ℤ → Type 0
+ReadsConfiguration config answer = (told : Result GateHeld CallFault) × (answer ≡ code told) × ReadsGate config told
 
 abbrev pub ClearsGate : GateHeld → GateHeld → ℤ → Type 0
 ClearsGate old new answer = Done (λ told. Empties old told new) answer
@@ -66,11 +69,11 @@ abbrev pub TellsMayNotify : ℕ → ℕ → List ℕ → GateHeld → GateHeld �
 TellsMayNotify receiver device arcs old new answer = (new ≡ old)
     × ((told : Result Access CallFault) × (answer ≡ access_code told) × MayNotify old receiver device arcs told)
 
--- three numbers are in the front of the buffer, or it is too short
+-- eight numbers are in the front of the buffer, or it is too short
 abbrev pub TellsNumbersOf : List ℕ → List ℕ → GateHeld → GateHeld → ℤ → Type 0
 TellsNumbersOf out out_new old new answer = (new ≡ old)
-    × (((answer ≡ pos 0) × (3 ≤ length out) × (out_new ≡ numbers_of old ++ drop 3 out))
-    ⊎ ((answer ≡ fault_code ShortBuffer) × (length out < 3) × (out_new ≡ out)))
+    × (((answer ≡ pos 0) × (8 ≤ length out) × (out_new ≡ numbers_of old ++ drop 8 out))
+    ⊎ ((answer ≡ fault_code ShortBuffer) × (length out < 8) × (out_new ≡ out)))
 
 abbrev pub GateCounter : ℕ → GateHeld → GateHeld → ℤ → Type 0
 GateCounter n old new answer = (new ≡ old)

@@ -5,10 +5,10 @@ ghost use Rattle.std.specs.Prelude.{◌≡◌, ◌≢◌, pos};
 ghost use Rattle.std.specs.Ptr.{lies_at};
 ghost use Rattle.gate_handles.specs.contracts.forward.ForwardHandle as forwarders;
 ghost use Rattle.gate_handles.specs.Forwards.{ForwardHeld};
-ghost use Rattle.snmp_c.specs.ForwardCalls.{ClearsForwarder, MakesTheForwarder, SendsNotification, TakesTrapOf};
-ghost use Rattle.snmp_c.specs.ForwardCalls.{TellsForwardDue, TellsForwardNumbers, TellsNotification};
+ghost use Rattle.snmp_c.specs.ForwardCalls.{ClearsForwarder, MakesTheForwarder, SendsNotification, TakesReceiverOf};
+ghost use Rattle.snmp_c.specs.ForwardCalls.{TakesTrapOf, TellsForwardDue, TellsForwardNumbers, TellsNotification};
 
-use crate::forward_calls::{clear, due, message, next, numbers, take_trap};
+use crate::forward_calls::{clear, due, message, next, numbers, take_receiver, take_trap};
 use gate_handles::ForwardHandle;
 use snmp_handles::CallFault;
 use snmp_msg::Refusal;
@@ -74,10 +74,32 @@ pub unsafe extern "C" fn proved_forward_take_trap(at: *mut u8, device: u64, data
     take_trap(&mut *(at as *mut ForwardHandle), device, datagram)
 }
 
-/// Sends what waits longest to the next of its receivers, at the moment `now`, in milliseconds. Each salt is to be
-/// another one, and so is each `ask_id`. It answers 0 where nothing waits; 27 where a datagram is to be sent to a
-/// receiver; 30 and the number of a refusal for which a notification isn't sent to one; or 14, if memory runs out: the
-/// call may be made again.
+/// Takes a datagram from the receiver of this number, at the moment `now`, in milliseconds. It answers 50 where it is
+/// no answer to what is waited for, 51 where it is an answer to what was sent last for an Inform, which goes on, 52
+/// where an Inform is acknowledged, and 53 where the receiver's engine refused it. Or the number of a refusal: the
+/// datagram isn't taken, and at 14, if memory runs out, it may be taken again.
+#[unsafe(no_mangle)]
+pub unsafe extern "C" fn proved_forward_take_receiver(
+    at: *mut u8,
+    now: u64,
+    receiver: u64,
+    datagram: &[u8],
+) -> i32
+    ghost held: { ForwardHeld }
+    requires* { sem 𝓛 (lies_at forwarders.the_row full_share at held) }
+    ensures* { ∃ₛ (λ (new : ForwardHeld). sem 𝓛
+        (lies_at forwarders.the_row full_share at new) ∗ ⌜ TakesReceiverOf now receiver datagram.now
+        held new result ⌝) }
+{
+    take_receiver(&mut *(at as *mut ForwardHandle), now, receiver, datagram)
+}
+
+/// Does the first thing that is to be done at the moment `now`, in milliseconds. Each salt is to be another one, and
+/// so is each `ask_id`, the first of them random. It answers 0 where there is nothing to do. Of a notification: 27
+/// where a datagram is to be sent to a receiver, 30 and the number of a refusal for which none is sent to it, 54 where
+/// it begins to wait for its acknowledgement, as an Inform, and 56 where it isn't sent, as many Informs wait as may. Of
+/// an Inform: 55 where a datagram is to be sent to its receiver, 57 where it is given up, and 60 and the number of a
+/// refusal for which it ends. Or 14, if memory runs out: the call may be made again.
 #[unsafe(no_mangle)]
 pub unsafe extern "C" fn proved_forward_next(at: *mut u8, now: u64, salt: u64, ask_id: u32) -> i32
     ghost held: { ForwardHeld }
@@ -88,8 +110,8 @@ pub unsafe extern "C" fn proved_forward_next(at: *mut u8, now: u64, salt: u64, a
     next(&mut *(at as *mut ForwardHandle), now, salt, ask_id)
 }
 
-/// Writes the moment from which on there is something to do: 0 if a notification waits. It answers -2 where none
-/// does.
+/// Writes the moment from which on there is something to do, in milliseconds: 0 if a notification waits. It answers -2
+/// where there is nothing to do by time alone.
 #[unsafe(no_mangle)]
 pub unsafe extern "C" fn proved_forward_due(at: *mut u8, at_moment: &mut u64) -> i32
     ghost held: { ForwardHeld }
@@ -119,8 +141,11 @@ pub unsafe extern "C" fn proved_forward_message(
     message(&mut *(at as *mut ForwardHandle), out, written)
 }
 
-/// Writes three numbers: that of the notification that the last call was about, that of the receiver, and how many
-/// notifications wait. It answers -5 where there is no room for three.
+/// Writes seven numbers: that of the notification that the last call was about, and that of the receiver; how many
+/// notifications wait to be sent; that of the Inform that the last call was about; how many Informs wait; which message
+/// was sent for the Inform, 1 the discovery, 2 the request for the time of the receiver's engine, 3 the Inform itself;
+/// and which counter that engine reported, 1 to 9. What the last call isn't about stays, but the message and the
+/// counter are 0 then. It answers -5 where there is no room for seven.
 #[unsafe(no_mangle)]
 pub unsafe extern "C" fn proved_forward_numbers(at: *mut u8, out: &mut [u64]) -> i32
     ghost held: { ForwardHeld }

@@ -1,7 +1,7 @@
 //! What the calls on a forwarder of notifications do, without pointers.
 
-ghost use Rattle.snmp_c.specs.ForwardCalls.{ClearsForwarder, SendsNotification, TakesTrapOf, TellsForwardDue};
-ghost use Rattle.snmp_c.specs.ForwardCalls.{TellsForwardNumbers, TellsNotification};
+ghost use Rattle.snmp_c.specs.ForwardCalls.{ClearsForwarder, SendsNotification, TakesReceiverOf, TakesTrapOf};
+ghost use Rattle.snmp_c.specs.ForwardCalls.{TellsForwardDue, TellsForwardNumbers, TellsNotification};
 
 use gate_handles::{ForwardHandle, forward_code_of};
 use snmp_handles::{CallFault, code_of};
@@ -13,7 +13,19 @@ pub(crate) fn take_trap(handle: &mut ForwardHandle, device: u64, datagram: &[u8]
     forward_code_of(handle.take_trap(device as usize, datagram))
 }
 
-/// Sends what waits longest to the next of its receivers.
+/// Takes a datagram from a receiver.
+pub(crate) fn take_receiver(
+    handle: &mut ForwardHandle,
+    now: u64,
+    receiver: u64,
+    datagram: &[u8],
+) -> i32
+    ensures { TakesReceiverOf now receiver datagram.now handle.old handle.new result }
+{
+    forward_code_of(handle.take_receiver(now, receiver as usize, datagram))
+}
+
+/// Does the first thing that is to be done.
 pub(crate) fn next(handle: &mut ForwardHandle, now: u64, salt: u64, ask_id: u32) -> i32
     ensures { SendsNotification now salt ask_id handle.old handle.new result }
 {

@@ -1,11 +1,15 @@
 //! A gateway behind a pointer.
 
 ghost use Rattle.std.specs.Borrow.{full_share, sem};
-ghost use Rattle.std.specs.Prelude.{◌≡◌, ◌≢◌, pos};
+ghost use Rattle.std.specs.Prelude.{◌≡◌, ◌≢◌, ◌⊎◌, pos};
 ghost use Rattle.std.specs.Ptr.{lies_at};
 ghost use Rattle.gate_handles.specs.contracts.handle.GateHandle as gates;
 ghost use Rattle.gate_handles.specs.Gates.{GateHeld};
-ghost use Rattle.snmp_c.specs.GateCalls.{MakesGateway, ClearsGate, TakesFromClient, TakesFromDevice, SendsDue};
+ghost use Rattle.snmp_handles.specs.Faults.{fault_code};
+ghost use Rattle.snmp_handles.specs.declared.fault.CallFault.TheVariants.{Refused};
+ghost use Rattle.snmp_message.specs.declared.refusal.Refusal.TheVariants.{OutOfMemory};
+ghost use Rattle.snmp_c.specs.GateCalls.{MakesGateway, ReadsConfiguration, ClearsGate, TakesFromClient};
+ghost use Rattle.snmp_c.specs.GateCalls.{TakesFromDevice, SendsDue};
 ghost use Rattle.snmp_c.specs.GateCalls.{TellsDue, TellsDatagram, TellsClientOf, TellsSetting, TellsNumbersOf};
 ghost use Rattle.snmp_c.specs.GateCalls.{GateCounter, GateCount, TellsGateConfiguration, TellsMayNotify, TellsUser};
 
@@ -21,6 +25,20 @@ use std::mem::align_of;
 
 // The heap in lib/src aligns its blocks to 16 octets.
 const _: () = prove!(align_of::<GateHandle>() <= 16);
+
+/// Writes the pointer to a handle. It answers 14, and nothing is written, if memory runs out.
+fn write_handle(alloc: Global, handle: GateHandle, out: &mut *mut u8) -> i32
+    ensures answer { (result ≡ pos 0) ⊎ (result ≡ fault_code (Refused OutOfMemory)) }
+    ensures unwritten { result ≢ pos 0 → out.new ≡ out.old }
+{
+    match Box::new(alloc, handle) {
+        Ok(handle) => {
+            *out = Box::into_raw(handle) as *mut u8;
+            0
+        }
+        Err(_) => CallFault::Refused(Refusal::OutOfMemory).code(),
+    }
+}
 
 /// Makes a gateway of this configuration, in TOML, with these boots, whose agent started at the moment `started`, in
 /// seconds, and writes the pointer to it. Where it answers another number than 0, nothing is written. That the
@@ -38,16 +56,26 @@ pub extern "C" fn proved_gate_new(
     ensures made { MakesGateway config.now boots started result }
     ensures unwritten { result ≢ pos 0 → out.new ≡ out.old }
 {
-    let handle = match GateHandle::of(alloc, config, boots, started) {
-        Ok(handle) => handle,
-        Err(fault) => return fault.code(),
-    };
-    match Box::new(alloc, handle) {
-        Ok(handle) => {
-            *out = Box::into_raw(handle) as *mut u8;
-            0
-        }
-        Err(_) => CallFault::Refused(Refusal::OutOfMemory).code(),
+    match GateHandle::of(alloc, config, boots, started) {
+        Ok(handle) => write_handle(alloc, handle, out),
+        Err(fault) => fault.code(),
+    }
+}
+
+/// Makes a handle with what this configuration says, in TOML, for `proved_gate_setting` and `proved_gate_may_notify`,
+/// and writes the pointer to it. Its gateway has no users and no devices, and answers nobody; no password is hashed.
+/// Where it answers another number than 0, nothing is written. That the pointer is written where it answers 0 is
+/// trusted, and tested from C.
+///
+/// It answers -6 where the configuration is refused, and 14 if memory runs out.
+#[unsafe(no_mangle)]
+pub extern "C" fn proved_gate_read(alloc: Global, config: &[u8], out: &mut *mut u8) -> i32
+    ensures read { ReadsConfiguration config.now result }
+    ensures unwritten { result ≢ pos 0 → out.new ≡ out.old }
+{
+    match GateHandle::read(alloc, config) {
+        Ok(handle) => write_handle(alloc, handle, out),
+        Err(fault) => fault.code(),
     }
 }
 
@@ -185,8 +213,8 @@ pub unsafe extern "C" fn proved_gate_client(at: *mut u8, out: &mut [u8], written
 /// Copies what the configuration says, in the same way: 0 the path of the boots file; 1 the address at which it
 /// listens at this position, counted from 0; 2 the contextName of the device at this position, 3 its address, and 4
 /// what about it is probably a mistake; 5 the address at which it takes Traps; 6 the address of the receiver at this
-/// position, 7 the name of its user, and 8 the word for its level. It answers -1 where nothing has the number, -2
-/// where nothing is said at the position, and 14 if memory runs out.
+/// position, 7 the name of its user, 8 the word for its level, and 9 `trap` or `inform`. It answers -1 where nothing
+/// has the number, -2 where nothing is said at the position, and 14 if memory runs out.
 #[unsafe(no_mangle)]
 pub unsafe extern "C" fn proved_gate_setting(
     at: *mut u8,
@@ -222,8 +250,10 @@ pub unsafe extern "C" fn proved_gate_may_notify(
     may_notify(&mut *(at as *mut GateHandle), receiver, device, arcs)
 }
 
-/// Writes three numbers: that of the request that the last call was about, that of the device, and how many requests
-/// wait. It answers -5 where there is no room for three.
+/// Writes eight numbers: that of the request that the last call was about, that of the device, and how many requests
+/// wait; and then what the last call told, as `GateHandle::numbers` does: error-status and error-index of the Response
+/// that goes to a client; 1 for a Report; why a device's answer doesn't answer what it was asked, 1 to 6, and the
+/// number of the binding, counted from 1. What wasn't told is 0. It answers -5 where there is no room for eight.
 #[unsafe(no_mangle)]
 pub unsafe extern "C" fn proved_gate_numbers(at: *mut u8, out: &mut [u64]) -> i32
     ghost held: { GateHeld }

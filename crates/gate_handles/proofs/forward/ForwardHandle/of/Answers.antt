@@ -10,6 +10,6 @@ returns c = record {
   users = c.in_ok-said.said.users.users;
   tables = c.in_ok-said.said.access;
   loads = c.in_ok-said.ensures.loads;
-  forwarder = rw (c.new-agent.ensures, c.deref.ensures.value, c.deref-2.ensures.value, c.copy.ensures) at c.in-Ok.ensures.made;
+  originator = rw (c.new-agent.ensures, c.deref.ensures.value, c.deref-2.ensures.value, c.copy.ensures, c.in-Ok.ensures.users) at c.in-Ok-originator_of.ensures;
   quiet = refl;
 }

@@ -18,5 +18,5 @@ returns c =
       no_devices = c.new-devices.ensures.items;
       no_receivers = c.new.ensures.items;
       no_access = c.new-2.ensures.items;
-      quiet = record { message = refl; client = refl };
+      quiet = record { message = refl; client = refl; note = refl };
     }

@@ -9,5 +9,5 @@ returns c = record {
   loads = c.in_ok-said.ensures.loads;
   access = c.in_ok-access.ensures.access;
   gate = rw (c.new-agent.ensures, c.deref.ensures.value, c.copy.ensures) at c.in-Ok.ensures;
-  quiet = record { message = refl; client = refl };
+  quiet = record { message = refl; client = refl; note = refl };
 }
