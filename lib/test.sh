@@ -4,7 +4,7 @@
 # It wants a C compiler; README.md has the line that installs all else that it can use. What isn't installed is told by a line that begins
 # with `skipped:` and left out. The C is built twice, the second time with sanitizers, and those programs are run where they can be built. It
 # prints what differs from what is expected, and at the end how many checks passed; the status is 1 if any failed. Each part is a script in
-# tests/. Ports from PORT (16161) to PORT + 20 are used.
+# tests/. Ports from PORT (16161) to PORT + 24 are used.
 here=$(cd "$(dirname "$0")" && pwd)
 export OUT=${OUT:-$here/out}
 work=$(mktemp -d)
@@ -231,6 +231,6 @@ test_traps() {
 test_c
 test_agent
 test_traps
-for part in gate gate_lines gate_traps gate_clients gate_files gate_memory poll client dispatch made_tables flood wrappers boots words memory secrets processors captures install packages; do . "$here/tests/$part.sh"; done
+for part in gate gate_lines gate_traps gate_informs gate_clients gate_files gate_memory poll client dispatch made_tables flood wrappers boots words memory secrets processors captures install packages; do . "$here/tests/$part.sh"; done
 echo "$passed passed, $failed failed"
 [ $failed = 0 ]

@@ -67,7 +67,20 @@ static bool take_pdu(struct rest rest, struct pdu *pdu, struct rest *list) {
 
 bool pdu_of(const uint8_t *datagram, size_t len, struct pdu *pdu) {
     struct rest list;
-    return take_pdu((struct rest){datagram, len}, pdu, &list) && take_names(list, pdu);
+    if (!take_pdu((struct rest){datagram, len}, pdu, &list)) return false;
+    pdu->list = list.at;
+    pdu->list_len = list.len;
+    return take_names(list, pdu);
+}
+
+bool name_of(const uint8_t *list, size_t list_len, size_t number, const uint8_t **name, size_t *name_len) {
+    struct rest rest = {list, list_len}, binding, content;
+    for (size_t i = 0; i < number; i++)
+        if (!take(&rest, SEQUENCE, &binding)) return false;
+    if (!number || !take(&binding, OBJECT_IDENTIFIER, &content)) return false;
+    *name = content.at;
+    *name_len = content.len;
+    return true;
 }
 
 bool trap_oid_of(const uint8_t *datagram, size_t len, const uint8_t **oid, size_t *oid_len) {

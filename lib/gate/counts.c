@@ -18,9 +18,17 @@ static const struct { int event; const char *name; } trap_names[] = {
     {SNMPSEC_FORWARD_OTHER_COMMUNITY, "other_community"}, {SNMPSEC_FORWARD_FOR_NOBODY, "for_nobody"}, {SNMPSEC_FORWARD_NO_ROOM, "no_room"},
     {SNMPSEC_FORWARD_WAITS, "waits"}, {SNMPSEC_FORWARD_TO_RECEIVER, "to_receiver"}, {SNMPSEC_FORWARD_UNSENT, "unsent"}};
 
+static const struct { int event; const char *name; } inform_names[] = {
+    {SNMPSEC_FORWARD_INFORM_BEGINS, "begins"}, {SNMPSEC_FORWARD_INFORM_NO_ROOM, "no_room"}, {SNMPSEC_FORWARD_HEARD, "heard"},
+    {SNMPSEC_FORWARD_NO_ANSWER, "no_answer"}, {SNMPSEC_FORWARD_ACKNOWLEDGED, "acknowledged"}, {SNMPSEC_FORWARD_DENIED, "denied"},
+    {SNMPSEC_FORWARD_INFORM_GIVEN_UP, "given_up"}, {SNMPSEC_FORWARD_INFORM_UNSENT, "unsent"}};
+static const char *const inform_messages[INFORM_MESSAGES] = {
+    [SNMPSEC_INFORM_DISCOVERY] = "discovery", [SNMPSEC_INFORM_TIME] = "time", [SNMPSEC_INFORM_ITSELF] = "inform"};
+
 static const struct { const char *name; size_t at; } of_device[] = {
     {"asked", offsetof(struct device_counts, asked)}, {"asked_again", offsetof(struct device_counts, asked_again)},
-    {"answered", offsetof(struct device_counts, answered)}, {"given_up", offsetof(struct device_counts, given_up)},
+    {"answered", offsetof(struct device_counts, answered)}, {"unfit", offsetof(struct device_counts, unfit)},
+    {"given_up", offsetof(struct device_counts, given_up)},
     {"not_waited_for", offsetof(struct device_counts, not_waited_for)}, {"unreadable", offsetof(struct device_counts, unreadable)},
     {"socket_errors", offsetof(struct device_counts, errors)}, {"notifies", offsetof(struct device_counts, notifies)}};
 
@@ -68,19 +76,44 @@ static void write_devices(FILE *to, const struct device *devices, size_t len) {
         }
 }
 
-static void write_statuses(FILE *to, const struct counts *counts) {
-    write_name(to, "answers_total", "counter");
+static void write_statuses(FILE *to, const char *name, const uint64_t *statuses) {
+    write_name(to, name, "counter");
     for (uint32_t i = 0; i <= STATUSES; i++)
-        fprintf(to, "snmpsec_gate_answers_total{error_status=\"%s\"} %" PRIu64 "\n", i < STATUSES ? status_name(i) : "other", counts->statuses[i]);
+        fprintf(to, "snmpsec_gate_%s{error_status=\"%s\"} %" PRIu64 "\n", name, i < STATUSES ? status_name(i) : "other", statuses[i]);
+}
+
+static void write_misfits(FILE *to, const uint64_t *misfits) {
+    static const char *const kinds[MISFITS] = {NULL, "too_few", "too_many", "other_name", "not_after", "no_value", "after_end"};
+    write_name(to, "misfits_total", "counter");
+    for (size_t i = 1; i < MISFITS; i++) fprintf(to, "snmpsec_gate_misfits_total{misfit=\"%s\"} %" PRIu64 "\n", kinds[i], misfits[i]);
+}
+
+static void write_refused(FILE *to, const char *name, const uint64_t *counts) {
+    write_name(to, name, "counter");
+    for (int i = 1; i <= 18; i++)
+        if (snmpsec_error_name(i)) fprintf(to, "snmpsec_gate_%s{refusal=\"%s\"} %" PRIu64 "\n", name, snmpsec_error_name(i), counts[i]);
+}
+
+static void write_informs(FILE *to, const struct counts *counts) {
+    write_name(to, "informs_total", "counter");
+    for (size_t i = 0; i < sizeof inform_names / sizeof *inform_names; i++)
+        fprintf(to, "snmpsec_gate_informs_total{event=\"%s\"} %" PRIu64 "\n", inform_names[i].name, counts->forwards[inform_names[i].event]);
+    write_name(to, "informs_sent_total", "counter");
+    for (size_t i = 1; i < INFORM_MESSAGES; i++)
+        fprintf(to, "snmpsec_gate_informs_sent_total{message=\"%s\"} %" PRIu64 "\n", inform_messages[i], counts->informs[i]);
+    write_refused(to, "receivers_refused_total", counts->receivers_refused);
 }
 
 static void write_traps(FILE *to, const struct told *told) {
     snmpsec_forward_info info;
     write_name(to, "traps_total", "counter");
     for (size_t i = 0; i < sizeof trap_names / sizeof *trap_names; i++)
-        fprintf(to, "snmpsec_gate_traps_total{event=\"%s\"} %" PRIu64 "\n", trap_names[i].name, told->counts->traps[trap_names[i].event]);
+        fprintf(to, "snmpsec_gate_traps_total{event=\"%s\"} %" PRIu64 "\n", trap_names[i].name, told->counts->forwards[trap_names[i].event]);
     fprintf(to, "snmpsec_gate_traps_total{event=\"of_nobody\"} %" PRIu64 "\n", told->counts->traps_of_nobody);
-    if (!snmpsec_forward_numbers(told->forward, &info)) write_one(to, "notifications_waiting", "gauge", info.waiting);
+    write_informs(to, told->counts);
+    if (snmpsec_forward_numbers(told->forward, &info)) return;
+    write_one(to, "notifications_waiting", "gauge", info.waiting);
+    write_one(to, "informs_waiting", "gauge", info.informs);
 }
 
 static void write_all(FILE *to, const struct told *told) {
@@ -89,14 +122,15 @@ static void write_all(FILE *to, const struct told *told) {
     write_name(to, "events_total", "counter");
     for (size_t i = 0; i < sizeof names / sizeof *names; i++)
         fprintf(to, "snmpsec_gate_events_total{event=\"%s\"} %" PRIu64 "\n", names[i].name, counts->events[names[i].event]);
-    write_name(to, "refused_total", "counter");
-    for (int i = 1; i <= 18; i++)
-        if (snmpsec_error_name(i))
-            fprintf(to, "snmpsec_gate_refused_total{refusal=\"%s\"} %" PRIu64 "\n", snmpsec_error_name(i), counts->refused[i]);
+    write_refused(to, "refused_total", counts->refused);
     write_one(to, "reports_total", "counter", counts->reports);
+    write_one(to, "request_reports_total", "counter", counts->request_reports);
+    write_one(to, "rounds_used_up_total", "counter", counts->rounds_used_up);
     write_one(to, "unsent_total", "counter", counts->unsent);
     write_one(to, "unlogged_total", "counter", counts->unlogged);
-    write_statuses(to, counts);
+    write_statuses(to, "answers_total", counts->statuses);
+    write_misfits(to, counts->misfits);
+    write_statuses(to, "responses_total", counts->responses);
     if (told->forward) write_traps(to, told);
     write_devices(to, told->devices, told->devices_len);
     if (!snmpsec_gate_numbers(told->gate, &info)) write_one(to, "waiting", "gauge", info.waiting);

@@ -8,8 +8,12 @@
 #include <stdint.h>
 
 /* of a device: what it was asked and what came from it */
-struct device_counts { uint64_t asked, asked_again, answered, given_up, not_waited_for, unreadable, errors, notifies; };
+struct device_counts { uint64_t asked, asked_again, answered, unfit, given_up, not_waited_for, unreadable, errors, notifies; };
 
+/* the kinds of snmpsec_misfit, and that there is none */
+enum { MISFITS = SNMPSEC_MISFIT_AFTER_END + 1 };
+
+enum { INFORM_MESSAGES = SNMPSEC_INFORM_ITSELF + 1 };
 struct counts {
     /* by the event's number: what was taken from clients and devices, and what went out */
     uint64_t events[SNMPSEC_GATE_UNANSWERED + 1];
@@ -17,9 +21,15 @@ struct counts {
     uint64_t refused[19];
     /* answers of devices by their error-status; the last is of those that have no name */
     uint64_t statuses[STATUSES + 1];
+    /* answers of devices that don't fit what was asked, by why */
+    uint64_t misfits[MISFITS];
+    /* Responses to clients, by their error-status, and Reports on requests; and requests that wanted more rounds than they may have */
+    uint64_t responses[STATUSES + 1], request_reports, rounds_used_up;
     uint64_t reports, unsent, unlogged;
-    /* by the event's number: what was taken of devices' Traps, and what went to receivers; and datagrams that no device's address sent */
-    uint64_t traps[SNMPSEC_FORWARD_UNSENT + 1], traps_of_nobody;
+    /* by the event's number: what was taken of devices' Traps and of receivers, and what went to these; and datagrams that no device's address sent */
+    uint64_t forwards[SNMPSEC_FORWARD_INFORM_UNSENT + 1], traps_of_nobody;
+    /* by what was sent for Informs; and by the refusal's number, what came from receivers */
+    uint64_t informs[INFORM_MESSAGES], receivers_refused[19];
 };
 
 /* A device of the configuration. */

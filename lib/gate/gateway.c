@@ -36,16 +36,17 @@ char *setting_of(snmpsec_gate *gate, snmpsec_gate_text text, size_t position, si
 }
 
 /* Makes the machine of a text, and where it says where Traps are taken and who is sent them, the one for these; of the same text, so that their devices
- * are the same. */
-static int make_of(const uint8_t *config, size_t len, uint32_t boots, snmpsec_gate **gate, snmpsec_forward **forward) {
+ * are the same. Without boots it only reads what the text says. */
+static int make_of(const uint8_t *config, size_t len, const uint32_t *boots, snmpsec_gate **gate, snmpsec_forward **forward) {
     uint64_t started = now_in_milliseconds() / 1000;
-    int answer = snmpsec_gate_new(config, len, boots, started, gate);
-    if (answer || !forward || !count_of(*gate, SNMPSEC_GATE_TRAPS) || !count_of(*gate, SNMPSEC_GATE_RECEIVER)) return answer;
-    return snmpsec_forward_new(config, len, boots, started, forward);
+    if (!boots) return snmpsec_gate_read(config, len, gate);
+    int answer = snmpsec_gate_new(config, len, *boots, started, gate);
+    if (answer || !count_of(*gate, SNMPSEC_GATE_TRAPS) || !count_of(*gate, SNMPSEC_GATE_RECEIVER)) return answer;
+    return snmpsec_forward_new(config, len, *boots, started, forward);
 }
 
-/* Makes the machines of the file: 0, or the status to end with. */
-static int make_gate(const char *path, uint32_t boots, snmpsec_gate **gate, snmpsec_forward **forward) {
+/* Makes the machines of the file, or without boots what reads it: 0, or the status to end with. */
+static int make_gate(const char *path, const uint32_t *boots, snmpsec_gate **gate, snmpsec_forward **forward) {
     uint8_t *config;
     size_t len;
     if (file_read(path, MOST_CONFIG, &config, &len)) return 1;
@@ -109,7 +110,7 @@ static void say_notes(snmpsec_gate *gate) {
 
 int gateway_check(const struct words *words) {
     snmpsec_gate *gate = NULL;
-    int status = make_gate(words->config, 0, &gate, NULL);
+    int status = make_gate(words->config, NULL, &gate, NULL);
     if (status) return status;
     say_notes(gate);
     printf("%zu devices, %zu addresses\n", count_of(gate, SNMPSEC_GATE_ADDRESS), count_of(gate, SNMPSEC_GATE_LISTEN));
@@ -187,6 +188,12 @@ static int watch_devices(struct gateway *gateway) {
     return 0;
 }
 
+static int watch_receivers(struct gateway *gateway) {
+    for (size_t i = 0; i < gateway->receivers_len; i++)
+        if (watch(gateway, gateway->receivers[i].socket, FROM_RECEIVER, i)) return 1;
+    return 0;
+}
+
 /* The counts of the device with this context go on: most stand where they stood. */
 static void take_counts(const struct gateway *gateway, struct device *device, size_t at) {
     for (size_t i = 0; i < gateway->devices_len; i++) {
@@ -205,7 +212,7 @@ static int become(const char *name) {
     return 1;
 }
 
-/* Locks the boots' file, and makes the machine with the boots of this start, which are kept before anything is sent. */
+/* Locks the boots' file, and makes the machine with the boots of this start, instead of what read the file; they are kept before anything is sent. */
 static int begin_boots(struct gateway *gateway, const struct words *words) {
     uint32_t boots;
     size_t len;
@@ -213,7 +220,7 @@ static int begin_boots(struct gateway *gateway, const struct words *words) {
     if (!gateway->boots_path || boots_next(gateway->boots_path, false, &boots)) return 1;
     snmpsec_gate_free(gateway->gate);
     gateway->gate = NULL;
-    int status = make_gate(words->config, boots, &gateway->gate, &gateway->forward);
+    int status = make_gate(words->config, &boots, &gateway->gate, &gateway->forward);
     if (status) return status;
     gateway->boots = boots;
     return boots_keep(gateway->boots_path, boots) ? 1 : 0;
@@ -221,13 +228,13 @@ static int begin_boots(struct gateway *gateway, const struct words *words) {
 
 int gateway_open(struct gateway *gateway, const struct words *words) {
     gateway->log = -1;
-    int status = make_gate(words->config, 0, &gateway->gate, NULL);
+    int status = make_gate(words->config, NULL, &gateway->gate, NULL);
     if (status) return status;
     say_notes(gateway->gate);
     gateway->poll = epoll_create1(EPOLL_CLOEXEC);
     if (gateway->poll < 0) { perror("snmpsec-gate: epoll"); return 1; }
     if (open_listeners(gateway, words) || open_devices(gateway->gate, gateway->devices, &gateway->devices_len) || watch_devices(gateway)) return 1;
-    if (open_trap_listeners(gateway) || open_receivers(gateway->gate, gateway->receivers, &gateway->receivers_len)) return 1;
+    if (open_trap_listeners(gateway) || open_receivers(gateway->gate, gateway->receivers, &gateway->receivers_len) || watch_receivers(gateway)) return 1;
     if (words->user && become(words->user)) return 1;
     if (words->log && (gateway->log = open(words->log, O_WRONLY | O_APPEND | O_CREAT | O_CLOEXEC | O_NOCTTY, 0600)) < 0) {
         fprintf(stderr, "snmpsec-gate: %s: %s\n", words->log, strerror(errno));
@@ -285,6 +292,7 @@ static void replace_forward(struct gateway *gateway, snmpsec_forward *forward, c
     gateway->receivers_len = len;
     snmpsec_forward_free(gateway->forward);
     gateway->forward = forward;
+    (void)watch_receivers(gateway);
 }
 
 void gateway_reload(struct gateway *gateway, const struct words *words) {
@@ -294,7 +302,7 @@ void gateway_reload(struct gateway *gateway, const struct words *words) {
     snmpsec_forward *forward = NULL;
     size_t len = 0, receivers_len = 0;
     uint32_t boots = gateway->boots < BOOTS_LATCHED ? gateway->boots + 1 : BOOTS_LATCHED;
-    if (!make_gate(words->config, boots, &gate, &forward) && has_boots_path(gateway, gate) && !open_devices(gate, devices, &len)
+    if (!make_gate(words->config, &boots, &gate, &forward) && has_boots_path(gateway, gate) && !open_devices(gate, devices, &len)
         && !open_receivers(gate, receivers, &receivers_len) && !boots_keep(gateway->boots_path, boots)) {
         if (!words->listens) say_listeners(gateway->gate, gate, SNMPSEC_GATE_LISTEN, "listen");
         say_listeners(gateway->gate, gate, SNMPSEC_GATE_TRAPS, "traps");

@@ -3,6 +3,7 @@
 #define GATEWAY_H
 
 #include "counts.h"
+#include "receivers.h"
 #include "traps.h"
 #include <snmpsec.h>
 #include <stdbool.h>
@@ -46,7 +47,7 @@ struct gateway {
 };
 
 /* What a socket of the poll is. */
-enum source { FROM_DEVICE, FROM_CLIENT, FROM_TRAPS, FROM_SIGNAL };
+enum source { FROM_DEVICE, FROM_CLIENT, FROM_TRAPS, FROM_RECEIVER, FROM_SIGNAL };
 static inline uint64_t source_of(enum source source, size_t number) { return (uint64_t)source << 32 | number; }
 
 /* The boot clock, in milliseconds. */

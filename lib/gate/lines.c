@@ -6,7 +6,7 @@
 
 enum { MOST_A_SECOND = 10 };
 static const char *const kinds[LINE_KINDS] = {"refused", "unhandled", "set", "given up", "device", "status", "dropped", "unanswered", "file",
-                                              "notified", "not notified"};
+                                              "notified", "acknowledged", "not notified", "receiver", "misfit", "rounds"};
 static struct { uint64_t second, written, left_out; } of_kind[LINE_KINDS];
 
 static void begin_second(enum line_kind kind, uint64_t second) {

@@ -8,7 +8,7 @@
 
 enum line_kind {
     LINE_REFUSED, LINE_UNHANDLED, LINE_SET, LINE_GIVEN_UP, LINE_DEVICE, LINE_STATUS, LINE_DROPPED, LINE_UNANSWERED, LINE_FILE,
-    LINE_NOTIFIED, LINE_NOT_NOTIFIED, LINE_KINDS
+    LINE_NOTIFIED, LINE_ACKNOWLEDGED, LINE_NOT_NOTIFIED, LINE_RECEIVER, LINE_MISFIT, LINE_ROUNDS, LINE_KINDS
 };
 
 /* Whether a line of this kind may be written now. Where 10 were written in this second it is counted as left out, which is said once the second is

@@ -105,7 +105,7 @@ static void note_client(struct gateway *gateway, snmpsec_gate_event event, const
     snmpsec_gate_info info;
     uint8_t user[MOST_USER];
     if (snmpsec_gate_numbers(gateway->gate, &info)) return;
-    if (event == SNMPSEC_GATE_BEGINS) waiting_begins(info.request, client, user, user_of(len, user));
+    if (event == SNMPSEC_GATE_BEGINS) waiting_begins(info.request, client, user, user_of(len, user), digest_of(datagram, len));
     else waiting_joins(info.request);
 }
 
@@ -153,14 +153,47 @@ static void say_answer(uint64_t now, const struct device *device, const struct w
     say_status(now, device, request, pdu->status, how);
 }
 
+/* Why an answer doesn't fit what was asked, in words. */
+static void misfit_words(const snmpsec_gate_info *info, const struct waiting *request, const struct pdu *pdu, char *words, size_t most) {
+    const uint8_t *name = NULL, *before = NULL;
+    size_t name_len = 0, before_len = 0;
+    char shows[ASKED_WORDS], asked[ASKED_WORDS] = "what was asked";
+    (void)name_of(pdu->list, pdu->list_len, info->binding, &name, &name_len);
+    name_words(name, name_len, shows, sizeof shows);
+    if (request && waiting_asked(request, pdu, info->binding, &before, &before_len)) name_words(before, before_len, asked, sizeof asked);
+    switch (info->misfit) {
+    case SNMPSEC_MISFIT_TOO_FEW: snprintf(words, most, "it has %zu bindings, too few", pdu->names); return;
+    case SNMPSEC_MISFIT_TOO_MANY: snprintf(words, most, "it has %zu bindings, too many", pdu->names); return;
+    case SNMPSEC_MISFIT_OTHER_NAME: snprintf(words, most, "binding %" PRIu64 " is %s, which isn't %s", info->binding, shows, asked); return;
+    case SNMPSEC_MISFIT_NOT_AFTER: snprintf(words, most, "binding %" PRIu64 " is %s, which isn't after %s", info->binding, shows, asked); return;
+    case SNMPSEC_MISFIT_NO_VALUE: snprintf(words, most, "binding %" PRIu64 ", %s, has no value that can be read", info->binding, shows); return;
+    default: snprintf(words, most, "binding %" PRIu64 ", %s, has a value behind endOfMibView", info->binding, shows);
+    }
+}
+
+/* Says that an answer doesn't fit what was asked. */
+static void say_misfit(uint64_t now, const struct device *device, const snmpsec_gate_info *info, const struct waiting *request, const struct pdu *pdu) {
+    char asker[ASKER_WORDS], asked[ASKED_WORDS], why[2 * ASKED_WORDS + 60];
+    if (!line_has_room(LINE_MISFIT, now)) return;
+    asker_words(request, asker);
+    asked_words(request, asked);
+    misfit_words(info, request, pdu, why, sizeof why);
+    line("device %s answers wrongly to %s of %s: %s", device->words, asked, asker, why);
+}
+
 /* What a device's answer says, for counts and lines. */
-static void note_answer(struct gateway *gateway, uint64_t now, const struct device *device, size_t len) {
+static void note_answer(struct gateway *gateway, uint64_t now, struct device *device, size_t len) {
     snmpsec_gate_info info;
     struct pdu pdu;
     if (snmpsec_gate_numbers(gateway->gate, &info) || !pdu_of(datagram, len, &pdu)) return;
     gateway->counts.statuses[pdu.status < STATUSES ? pdu.status : STATUSES]++;
+    waiting_answers(info.request, &pdu, info.misfit == SNMPSEC_MISFIT_NONE);
     const struct waiting *request = waiting_of(info.request);
-    if (pdu.status || is_set(request)) say_answer(now, device, request, &pdu);
+    if (info.misfit && info.misfit < MISFITS) {
+        gateway->counts.misfits[info.misfit]++;
+        device->counts.unfit++;
+        say_misfit(now, device, &info, request, &pdu);
+    } else if (pdu.status || is_set(request)) say_answer(now, device, request, &pdu);
 }
 
 static void take_device(struct gateway *gateway, size_t number, size_t len) {
@@ -247,6 +280,23 @@ static const char *counted(struct gateway *gateway) {
     return NULL;
 }
 
+/* What a Response says, or that it is a Report, for counts and lines. */
+static void note_response(struct gateway *gateway, uint64_t now, const snmpsec_gate_info *info, struct waiting *request) {
+    char asker[ASKER_WORDS], asked[ASKED_WORDS];
+    const char *name = info->status < STATUSES ? status_name((uint32_t)info->status) : NULL;
+    if (info->is_report) { gateway->counts.request_reports++; return; }
+    gateway->counts.responses[info->status < STATUSES ? info->status : STATUSES]++;
+    if (!request) return;
+    asker_words(request, asker);
+    asked_words(request, asked);
+    if (request->is_repeated && !request->rounds && line_has_room(LINE_SET, now))
+        line("a Set of before by %s is told again: error-status %" PRIu64 " (%s), index %" PRIu64, asker, info->status,
+             name ? name : "no such one", info->index);
+    if (info->status != GEN_ERR || !info->index || !waiting_used_up(request)) return;
+    gateway->counts.rounds_used_up++;
+    if (line_has_room(LINE_ROUNDS, now)) line("%s wants more than %" PRIu32 " rounds: %s", asker, request->rounds, asked);
+}
+
 /* One message of a request is answered, or isn't. */
 static void take_end(struct gateway *gateway, uint64_t now, const snmpsec_gate_info *info, int why) {
     char asker[ASKER_WORDS];
@@ -272,6 +322,7 @@ static void take_event(struct gateway *gateway, uint64_t now, snmpsec_gate_event
     bool is_message = !snmpsec_gate_message(gateway->gate, message, sizeof message, &len);
     if (is_message && event == SNMPSEC_GATE_TO_CLIENT) send_client(gateway, len);
     if (is_message && event == SNMPSEC_GATE_TO_DEVICE) send_device(gateway, &info, len);
+    if (event == SNMPSEC_GATE_TO_CLIENT) note_response(gateway, now, &info, waiting_of(info.request));
     if (event == SNMPSEC_GATE_TO_CLIENT || event == SNMPSEC_GATE_UNANSWERED) take_end(gateway, now, &info, why);
 }
 
@@ -288,8 +339,9 @@ static void send_due(struct gateway *gateway) {
 
 /* For how many milliseconds nothing is due. */
 static int patience(struct gateway *gateway) {
-    uint64_t at, now = now_in_milliseconds();
-    if (snmpsec_gate_due(gateway->gate, &at)) return MOST_PATIENCE;
+    uint64_t at, inform, now = now_in_milliseconds();
+    if (snmpsec_gate_due(gateway->gate, &at)) at = UINT64_MAX;
+    if (gateway->forward && !snmpsec_forward_due(gateway->forward, &inform) && inform < at) at = inform;
     if (at <= now) return 1;
     return at - now > MOST_PATIENCE ? MOST_PATIENCE : (int)(at - now);
 }
@@ -313,6 +365,7 @@ static bool take_ready(struct gateway *gateway, const struct words *words, const
             if (source == FROM_DEVICE) hear_device(gateway, number);
             else if (source == FROM_CLIENT) hear_clients(gateway, words, number);
             else if (source == FROM_TRAPS) hear_traps(gateway, number);
+            else if (source == FROM_RECEIVER) hear_receiver(gateway, number);
             else if (hear_signal(gateway, words, signals)) return true;
         }
     return false;
@@ -364,5 +417,6 @@ int serve(struct gateway *gateway, const struct words *words) {
     snmpsec_wipe(datagram, sizeof datagram);
     snmpsec_wipe(message, sizeof message);
     wipe_traps();
+    wipe_notifications();
     return status;
 }

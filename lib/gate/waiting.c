@@ -1,6 +1,7 @@
 #define _GNU_SOURCE
 #include "waiting.h"
 #include "lines.h"
+#include <snmpsec.h>
 #include <stdio.h>
 #include <stdlib.h>
 #include <string.h>
@@ -34,11 +35,32 @@ static bool grow(void) {
     return true;
 }
 
-void waiting_begins(uint64_t number, const struct client *client, const uint8_t *user, size_t user_len) {
+/* The digests of Sets that reached their devices, as many as the library remembers. */
+enum { SETS = 4096 };
+static uint64_t sets[SETS];
+static size_t next_set;
+
+static bool is_set_of_before(uint64_t digest) {
+    for (size_t i = 0; i < SETS; i++)
+        if (sets[i] == digest) return true;
+    return false;
+}
+
+/* (FNV-1a, and never 0) */
+uint64_t digest_of(const uint8_t *datagram, size_t len) {
+    uint64_t digest = 0xcbf29ce484222325u;
+    for (size_t i = 0; i < len; i++) digest = (digest ^ datagram[i]) * 0x100000001b3u;
+    return digest ? digest : 1;
+}
+
+void waiting_begins(uint64_t number, const struct client *client, const uint8_t *user, size_t user_len, uint64_t digest) {
     if (!grow()) return;
     struct waiting *request = place_of(number);
+    if (request->messages) free(request->list);
     held += !request->messages;
     memset(request, 0, sizeof *request);
+    request->digest = digest;
+    request->is_repeated = is_set_of_before(digest);
     request->number = number;
     request->messages = 1;
     request->client = *client;
@@ -70,8 +92,17 @@ static void close_gap(size_t free_at) {
 void waiting_ends(uint64_t number) {
     struct waiting *request = waiting_of(number);
     if (!request || --request->messages) return;
+    free(request->list);
     held--;
     close_gap((size_t)(request - table));
+}
+
+/* (of a Set it would keep values, which aren't wanted) */
+static void keep_list(struct waiting *request, const struct pdu *pdu) {
+    free(request->list);
+    request->list = malloc(pdu->list_len + 1);
+    request->list_len = request->list ? pdu->list_len : 0;
+    if (request->list_len) memcpy(request->list, pdu->list, pdu->list_len);
 }
 
 bool waiting_asks(uint64_t number, const struct pdu *pdu) {
@@ -79,7 +110,11 @@ bool waiting_asks(uint64_t number, const struct pdu *pdu) {
     if (!request) return false;
     if (request->times && request->ask_id == pdu->request_id) { request->times++; return true; }
     request->times = 1;
+    request->rounds++;
     request->ask_id = pdu->request_id;
+    request->non_repeaters = pdu->status;
+    if (pdu->tag == SNMPSEC_SET_REQUEST) sets[next_set++ % SETS] = request->digest;
+    else keep_list(request, pdu);
     request->tag = pdu->tag;
     request->names = pdu->names;
     request->name_len = (uint8_t)(pdu->first_len < MOST_NAME ? pdu->first_len : MOST_NAME);
@@ -87,7 +122,28 @@ bool waiting_asks(uint64_t number, const struct pdu *pdu) {
     return false;
 }
 
+void waiting_answers(uint64_t number, const struct pdu *pdu, bool is_fit) {
+    struct waiting *request = waiting_of(number);
+    if (!request) return;
+    request->status = pdu->status;
+    request->is_fit = is_fit;
+}
+
+/* (by tooBig a GetBulkRequest goes on, and by noSuchName a walk) */
+bool waiting_used_up(const struct waiting *request) { return request->times && request->is_fit && request->status <= 2; }
+
+bool waiting_asked(const struct waiting *request, const struct pdu *answer, size_t number, const uint8_t **name, size_t *name_len) {
+    size_t singles = request->tag == SNMPSEC_GET_BULK_REQUEST ? request->non_repeaters : request->names;
+    if (singles > request->names) singles = request->names;
+    size_t repeaters = request->names - singles;
+    if (!request->list || (number > singles && !repeaters)) return false;
+    if (number > singles + repeaters) return name_of(answer->list, answer->list_len, number - repeaters, name, name_len);
+    return name_of(request->list, request->list_len, number, name, name_len);
+}
+
 void waiting_clear(void) {
+    for (size_t i = 0; i < places; i++)
+        if (table[i].messages) free(table[i].list);
     free(table);
     table = NULL;
     places = held = 0;

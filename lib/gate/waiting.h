@@ -16,18 +16,28 @@ struct waiting {
     uint64_t number;
     /* how many of its messages wait; 0: this place is free */
     uint32_t messages;
-    /* how often the device was asked the same: 0: it wasn't asked */
-    uint32_t times;
+    /* how often the device was asked the same: 0: it wasn't asked; and how often it was asked another thing */
+    uint32_t times, rounds;
     uint32_t ask_id;
+    /* of its last answer, if it answered: the error-status, and whether its bindings fit */
+    uint32_t status;
+    bool is_fit;
+    /* the datagram by which it began is one of a Set that reached its device before */
+    bool is_repeated;
+    uint64_t digest;
     struct client client;
     uint8_t user[MOST_USER], user_len;
     /* the PDU by which the device was asked last, how many names it has, and the front of the first */
     uint8_t tag, name_len, name[MOST_NAME];
     size_t names;
+    /* of a request for values its bindings, in a block of its own, or NULL; and of a GetBulkRequest its non-repeaters */
+    uint8_t *list;
+    size_t list_len;
+    uint32_t non_repeaters;
 };
 
 /* A message begins the request of this number, or waits for its answer too. Where there is no memory nothing is kept, and lines say less. */
-void waiting_begins(uint64_t number, const struct client *client, const uint8_t *user, size_t user_len);
+void waiting_begins(uint64_t number, const struct client *client, const uint8_t *user, size_t user_len, uint64_t digest);
 void waiting_joins(uint64_t number);
 /* What is kept of it, or NULL. */
 struct waiting *waiting_of(uint64_t number);
@@ -35,6 +45,15 @@ struct waiting *waiting_of(uint64_t number);
 void waiting_ends(uint64_t number);
 /* Its device is asked by this PDU: whether it was asked the same before. */
 bool waiting_asks(uint64_t number, const struct pdu *pdu);
+/* Its device answers by this PDU, whose bindings fit what it was asked, or don't. */
+void waiting_answers(uint64_t number, const struct pdu *pdu, bool is_fit);
+/* Whether it ends with genErr because its device was asked as often as it may be: its last answer fits, and isn't the cause. */
+bool waiting_used_up(const struct waiting *request);
+/* What the device was asked for the answer's binding of this number, from 1: a name that was asked, or the answer's that stands before it in its
+ * column (RFC 3416, section 4.2.3). Whether it is known. */
+bool waiting_asked(const struct waiting *request, const struct pdu *answer, size_t number, const uint8_t **name, size_t *name_len);
+/* Of a datagram: by it a Set that comes again is known for lines. */
+uint64_t digest_of(const uint8_t *datagram, size_t len);
 /* Nothing waits any more. */
 void waiting_clear(void);
 

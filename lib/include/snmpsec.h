@@ -421,9 +421,12 @@ SNMPSEC_CALL void snmpsec_gate_free(snmpsec_gate *gate);
  * SNMPSEC_BAD_CONFIGURATION: they are written; SNMPSEC_SHORT_BUFFER; SNMPSEC_OUT_OF_MEMORY. */
 SNMPSEC_CHECK int snmpsec_gate_fault(const uint8_t *config, size_t config_len, uint8_t *out, size_t out_len, size_t *written);
 /* Makes a gateway of a configuration, whose agent started at this moment in seconds: SNMPSEC_BAD_ARGUMENT: boots are above 2147483647;
- * SNMPSEC_BAD_CONFIGURATION, SNMPSEC_OUT_OF_MEMORY; *out is then null. The path of its boots is a setting, so a program that doesn't know it makes one
- * with boots 0 to look, and frees it. */
+ * SNMPSEC_BAD_CONFIGURATION, SNMPSEC_OUT_OF_MEMORY; *out is then null. The path of its boots is a setting, which snmpsec_gate_read tells before. */
 SNMPSEC_CHECK int snmpsec_gate_new(const uint8_t *config, size_t config_len, uint32_t boots, uint64_t started, snmpsec_gate **out);
+/* Reads what a configuration says, for snmpsec_gate_setting and snmpsec_gate_may_notify. No password is hashed, so it takes little time. This gateway
+ * has no users and no devices, and answers nobody. It refuses what snmpsec_gate_new refuses: SNMPSEC_BAD_CONFIGURATION, SNMPSEC_OUT_OF_MEMORY; *out
+ * is then null. */
+SNMPSEC_CHECK int snmpsec_gate_read(const uint8_t *config, size_t config_len, snmpsec_gate **out);
 
 /* What the configuration says, at a position from 0. Boots are at each. */
 typedef enum snmpsec_gate_text {
@@ -434,7 +437,9 @@ typedef enum snmpsec_gate_text {
     /* an address at which Traps of devices are taken */
     SNMPSEC_GATE_TRAPS = 5,
     /* of a receiver of notifications: its address, its user, and the word for its level */
-    SNMPSEC_GATE_RECEIVER = 6, SNMPSEC_GATE_RECEIVER_USER = 7, SNMPSEC_GATE_RECEIVER_LEVEL = 8
+    SNMPSEC_GATE_RECEIVER = 6, SNMPSEC_GATE_RECEIVER_USER = 7, SNMPSEC_GATE_RECEIVER_LEVEL = 8,
+    /* how it is notified: "trap" or "inform" */
+    SNMPSEC_GATE_RECEIVER_KIND = 9
 } snmpsec_gate_text;
 /* Copies it: SNMPSEC_NOTHING_TAKEN: nothing is said there; SNMPSEC_SHORT_BUFFER, and *written says how much is wanted; SNMPSEC_OUT_OF_MEMORY. */
 SNMPSEC_CHECK int snmpsec_gate_setting(snmpsec_gate *gate, snmpsec_gate_text text, size_t position, uint8_t *out, size_t out_len, size_t *written);
@@ -454,8 +459,19 @@ SNMPSEC_CHECK int snmpsec_gate_due(snmpsec_gate *gate, uint64_t *at);
 /* The datagram that is to be sent, and the client to whom: SNMPSEC_NOTHING_TAKEN, SNMPSEC_SHORT_BUFFER. */
 SNMPSEC_CHECK int snmpsec_gate_message(snmpsec_gate *gate, uint8_t *out, size_t out_len, size_t *written);
 SNMPSEC_CHECK int snmpsec_gate_client(snmpsec_gate *gate, uint8_t *out, size_t out_len, size_t *written);
-/* The request and the device that the last call was about, where it was about one, and how many requests wait. */
-typedef struct snmpsec_gate_info { uint64_t request, device, waiting; } snmpsec_gate_info;
+/* Why the bindings of a device's answer don't answer what it was asked: the first of these from the left. Such a request is answered genErr. */
+typedef enum snmpsec_misfit {
+    /* they do, or the answer has an error; it has fewer bindings than were asked, or more */
+    SNMPSEC_MISFIT_NONE = 0, SNMPSEC_MISFIT_TOO_FEW = 1, SNMPSEC_MISFIT_TOO_MANY = 2,
+    /* a binding has another name than the one asked; or in a walk a name that isn't after the one asked, or after the one before it */
+    SNMPSEC_MISFIT_OTHER_NAME = 3, SNMPSEC_MISFIT_NOT_AFTER = 4,
+    /* it has no value, or one that isn't spelled as its tag has it; or a value behind endOfMibView */
+    SNMPSEC_MISFIT_NO_VALUE = 5, SNMPSEC_MISFIT_AFTER_END = 6
+} snmpsec_misfit;
+/* The request and the device that the last call was about, where it was about one, and how many requests wait. Then what the last call told, and 0 for
+ * what it didn't tell. SNMPSEC_GATE_TO_CLIENT: error-status and error-index of the Response, or is_report is 1. SNMPSEC_GATE_ANSWERS: why the answer
+ * doesn't fit, an snmpsec_misfit, and the number of the answer's binding from 1, or 0. */
+typedef struct snmpsec_gate_info { uint64_t request, device, waiting, status, index, is_report, misfit, binding; } snmpsec_gate_info;
 SNMPSEC_CHECK int snmpsec_gate_numbers(snmpsec_gate *gate, snmpsec_gate_info *out);
 /* The agent's counters. */
 SNMPSEC_CHECK int snmpsec_gate_counters(snmpsec_gate *gate, snmpsec_counters *out);
@@ -468,7 +484,7 @@ SNMPSEC_CHECK int snmpsec_gate_may_notify(snmpsec_gate *gate, size_t receiver, s
  * SNMPSEC_NOT_SECURITY: there is none; SNMPSEC_SHORT_BUFFER. */
 SNMPSEC_CHECK int snmpsec_datagram_user(const uint8_t *datagram, size_t datagram_len, uint8_t *out, size_t out_len, size_t *written);
 
-/* ---- a forwarder: Traps of devices that speak SNMPv2c, sent on to receivers that speak SNMPv3 (docs/gateway.md)
+/* ---- a forwarder: Traps of devices that speak SNMPv2c, sent on to receivers that speak SNMPv3, as Traps or as Informs (docs/gateway.md)
  *
  * It is made of the configuration of a gateway, and has its engine, boots, users, access and devices. The two share nothing: no salt may come twice
  * at either. It is made in as much time as the gateway, since its users have keys of their own. */
@@ -483,8 +499,19 @@ typedef enum snmpsec_forward_event {
     SNMPSEC_FORWARD_UNREADABLE = 20, SNMPSEC_FORWARD_NOT_TRAP = 21, SNMPSEC_FORWARD_NO_TRAP_OID = 22,
     /* _take_trap: it hasn't the device's community; no receiver may be notified of it; as many wait as may; it waits to be sent */
     SNMPSEC_FORWARD_OTHER_COMMUNITY = 23, SNMPSEC_FORWARD_FOR_NOBODY = 24, SNMPSEC_FORWARD_NO_ROOM = 25, SNMPSEC_FORWARD_WAITS = 26,
-    /* _next: _message goes to the receiver; a notification isn't sent to it */
-    SNMPSEC_FORWARD_TO_RECEIVER = 27, SNMPSEC_FORWARD_UNSENT = 30
+    /* _next: _message goes to the receiver, as a Trap; a notification isn't sent to it */
+    SNMPSEC_FORWARD_TO_RECEIVER = 27, SNMPSEC_FORWARD_UNSENT = 30,
+    /* _take_receiver: it is no answer to what is waited for; it is an answer to what was sent last for an Inform, which goes on */
+    SNMPSEC_FORWARD_NO_ANSWER = 50, SNMPSEC_FORWARD_HEARD = 51,
+    /* _take_receiver: an Inform has ended: it is acknowledged; the receiver's engine refused it, by the counter of _numbers */
+    SNMPSEC_FORWARD_ACKNOWLEDGED = 52, SNMPSEC_FORWARD_DENIED = 53,
+    /* _next: a notification begins to wait for its acknowledgement, as an Inform; _message goes to the receiver of an Inform */
+    SNMPSEC_FORWARD_INFORM_BEGINS = 54, SNMPSEC_FORWARD_INFORM_TO_RECEIVER = 55,
+    /* _next: a notification isn't sent to the receiver: as many Informs wait as may */
+    SNMPSEC_FORWARD_INFORM_NO_ROOM = 56,
+    /* _next: an Inform has ended: no answer came, and _numbers has the counter that was last reported without authentication, which anybody can have
+     * sent; nothing can be sealed for the receiver's user */
+    SNMPSEC_FORWARD_INFORM_GIVEN_UP = 57, SNMPSEC_FORWARD_INFORM_UNSENT = 60
 } snmpsec_forward_event;
 
 SNMPSEC_CALL void snmpsec_forward_free(snmpsec_forward *forward);
@@ -494,15 +521,23 @@ SNMPSEC_CHECK int snmpsec_forward_new(const uint8_t *config, size_t config_len, 
  * community is no secret on the way. */
 SNMPSEC_CHECK int snmpsec_forward_take_trap(snmpsec_forward *forward, size_t device, const uint8_t *datagram, size_t datagram_len,
                                             snmpsec_forward_event *event);
-/* Sends what waits longest to the next of its receivers: SNMPSEC_OK, SNMPSEC_OUT_OF_MEMORY. Each salt is another one, also after a restart, and each
- * ask_id. *why is the refusal for which a notification isn't sent, or 0. */
+/* Takes a datagram from the receiver at this position, at this moment in milliseconds: SNMPSEC_OK; SNMPSEC_OUT_OF_MEMORY; or the refusal of the
+ * datagram. An Inform is acknowledged by its own receiver alone, so it rests on the caller that the datagram came from it. */
+SNMPSEC_CHECK int snmpsec_forward_take_receiver(snmpsec_forward *forward, uint64_t now, size_t receiver, const uint8_t *datagram, size_t datagram_len,
+                                                snmpsec_forward_event *event);
+/* Does the first thing that is to be done at this moment in milliseconds: SNMPSEC_OK, SNMPSEC_OUT_OF_MEMORY. Each salt is another one, also after a
+ * restart, and each ask_id, the first of them random. *why is the refusal for which a notification or an Inform isn't sent, or 0. */
 SNMPSEC_CHECK int snmpsec_forward_next(snmpsec_forward *forward, uint64_t now, uint64_t salt, uint32_t ask_id, snmpsec_forward_event *event, int *why);
-/* The moment from which on _next has something to do, 0: SNMPSEC_NOTHING_TAKEN: there is none. */
+/* The moment in milliseconds from which on _next has something to do, 0 if a notification waits: SNMPSEC_NOTHING_TAKEN: there is none. */
 SNMPSEC_CHECK int snmpsec_forward_due(snmpsec_forward *forward, uint64_t *at);
 /* The datagram that is to be sent: SNMPSEC_NOTHING_TAKEN, SNMPSEC_SHORT_BUFFER. */
 SNMPSEC_CHECK int snmpsec_forward_message(snmpsec_forward *forward, uint8_t *out, size_t out_len, size_t *written);
-/* The notification and the receiver that the last call was about, where it was about one, and how many notifications wait. */
-typedef struct snmpsec_forward_info { uint64_t notification, receiver, waiting; } snmpsec_forward_info;
+/* What is sent for an Inform: what asks for the engine ID of the receiver's engine, what asks for its time, and the Inform itself. */
+typedef enum snmpsec_inform_message { SNMPSEC_INFORM_DISCOVERY = 1, SNMPSEC_INFORM_TIME = 2, SNMPSEC_INFORM_ITSELF = 3 } snmpsec_inform_message;
+/* The notification and the receiver that the last call was about, and how many notifications wait to be sent; the Inform that it was about, and how
+ * many wait for an answer. What it wasn't about stays. But message is what the last call left to be sent for an Inform, or 0, and counter is what the
+ * Inform's receiver reported, as snmpsec_report has it, or 0. */
+typedef struct snmpsec_forward_info { uint64_t notification, receiver, waiting, inform, informs, message, counter; } snmpsec_forward_info;
 SNMPSEC_CHECK int snmpsec_forward_numbers(snmpsec_forward *forward, snmpsec_forward_info *out);
 
 /* ---- variable bindings, as octets */

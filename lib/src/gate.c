@@ -27,6 +27,16 @@ int snmpsec_gate_new(const uint8_t *config, size_t config_len, uint32_t boots, u
     return answer;
 }
 
+int snmpsec_gate_read(const uint8_t *config, size_t config_len, snmpsec_gate **out) {
+    void *handle = NULL;
+    if (!out) return SNMPSEC_BAD_ARGUMENT;
+    *out = NULL;
+    if (snmpsec_inside_is_deep(config, config_len)) return SNMPSEC_BAD_CONFIGURATION;
+    int answer = done_deep(proved_gate_read(in(config, config_len), config_len, &handle));
+    if (!answer) *out = handle;
+    return answer;
+}
+
 void snmpsec_gate_free(snmpsec_gate *gate) {
     if (!gate) return;
     snmpsec_inside_free_handle(gate, proved_gate_clear);
@@ -73,10 +83,11 @@ int snmpsec_gate_client(snmpsec_gate *gate, uint8_t *out, size_t out_len, size_t
     return gate && written ? proved_gate_client(gate, room(out, out_len), out_len, written) : SNMPSEC_BAD_ARGUMENT;
 }
 
-_Static_assert(sizeof(snmpsec_gate_info) == 3 * sizeof(uint64_t), "the numbers of a gateway lie one after another");
+enum { GATE_NUMBERS = sizeof(snmpsec_gate_info) / sizeof(uint64_t) };
+_Static_assert(GATE_NUMBERS == 8, "the numbers of a gateway lie one after another");
 
 int snmpsec_gate_numbers(snmpsec_gate *gate, snmpsec_gate_info *out) {
-    return gate && out ? proved_gate_numbers(gate, (uint64_t *)out, 3) : SNMPSEC_BAD_ARGUMENT;
+    return gate && out ? proved_gate_numbers(gate, (uint64_t *)out, GATE_NUMBERS) : SNMPSEC_BAD_ARGUMENT;
 }
 
 int snmpsec_gate_counters(snmpsec_gate *gate, snmpsec_counters *out) {

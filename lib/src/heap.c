@@ -37,16 +37,16 @@ _Static_assert(_Alignof(max_align_t) >= ALIGNED, "malloc aligns its blocks to 16
 static char nothing[ALIGNED] __attribute__((aligned(16)));
 
 /* While a handle is emptied, blocks come from this room: the empty handle is made in it, so that freeing wants no memory and leaves no
- * block. It is NULL at other times. */
-enum { ROOM = 4096 };
+ * block. It is NULL at other times. An empty table of users takes some 2,600 octets. */
+enum { ROOM = 4096, LARGE_ROOM = 2 * ROOM };
 static _Thread_local char *room;
-static _Thread_local size_t room_used;
+static _Thread_local size_t room_size, room_used;
 
-static int is_in_room(const void *block) { return room && (uintptr_t)block - (uintptr_t)room < ROOM; }
+static int is_in_room(const void *block) { return room && (uintptr_t)block - (uintptr_t)room < room_size; }
 
 static void *from_room(size_t size) {
     size_t begin = room_used;
-    if (size > ROOM - begin) return NULL;
+    if (size > room_size - begin) return NULL;
     room_used += (size + ALIGNED - 1) / ALIGNED * ALIGNED;
     return room + begin;
 }
@@ -121,9 +121,9 @@ INSIDE void rattle_dealloc(void *block) {
     if (!is_in_room(block)) snmpsec_inside_free_block(block);
 }
 
-void snmpsec_inside_free_handle(void *handle, int32_t (*clear)(void *handle)) {
-    _Alignas(ALIGNED) char empty[ROOM];
+static void free_in(char *empty, size_t size, void *handle, int32_t (*clear)(void *handle)) {
     room = empty;
+    room_size = size;
     room_used = 0;
     int32_t answer = clear(handle);
     room = NULL;
@@ -131,4 +131,14 @@ void snmpsec_inside_free_handle(void *handle, int32_t (*clear)(void *handle)) {
     if (answer) (void)clear(handle);
     snmpsec_inside_free_block(handle);
     snmpsec_inside_wipe_free_stack();
+}
+
+void snmpsec_inside_free_handle(void *handle, int32_t (*clear)(void *handle)) {
+    _Alignas(ALIGNED) char empty[ROOM];
+    free_in(empty, sizeof empty, handle, clear);
+}
+
+void snmpsec_inside_free_large_handle(void *handle, int32_t (*clear)(void *handle)) {
+    _Alignas(ALIGNED) char empty[LARGE_ROOM];
+    free_in(empty, sizeof empty, handle, clear);
 }

@@ -34,5 +34,7 @@ INSIDE void *snmpsec_inside_block(size_t size);
 INSIDE void snmpsec_inside_free_block(void *block);
 /* Frees a handle of the archive by its _clear, which gives back all that it holds. It wants no memory. */
 INSIDE void snmpsec_inside_free_handle(void *handle, int32_t (*clear)(void *handle));
+/* The same for a handle that has two tables of users. */
+INSIDE void snmpsec_inside_free_large_handle(void *handle, int32_t (*clear)(void *handle));
 
 #endif

@@ -1,9 +1,10 @@
 /* The calls on a forwarder of notifications: forward_calls CONFIG CAPTURED-LOG
  *
- * Null pointers, refused configurations, Traps that are taken and that aren't, what is sent to whom, who may be notified, and refused memory. The
- * captured datagrams are of SNMPv3, so none of them is a device's Trap. Not proved. */
+ * Null pointers, refused configurations, Traps that are taken and that aren't, what is sent to whom, who may be notified, Informs to an engine that the
+ * test plays, and refused memory. The captured datagrams are of SNMPv3, so none of them is a device's Trap. Not proved. */
 #define _GNU_SOURCE
 #include "checks.h"
+#include <malloc.h>
 #include <stdio.h>
 #include <string.h>
 
@@ -14,7 +15,10 @@
     "level = 'noAuthNoPriv'\nnotify = 'all'\n[[family]]\nview = 'all'\nsubtree = '1.3.6'\ninclude = true\n"
 #define RECEIVERS "[[receiver]]\naddress = '192.0.2.50:162'\nuser = 'bob'\nlevel = 'noAuthNoPriv'\n" \
     "[[receiver]]\naddress = '192.0.2.51:162'\nuser = 'ann'\nlevel = 'authPriv'\n"
+#define INFORMED "[[receiver]]\naddress = '192.0.2.52:162'\nuser = 'ann'\nlevel = 'authPriv'\nkind = 'inform'\n"
 static const char text[] = HEAD DEVICE "[[device]]\ncontext = 'ups'\naddress = '10.1.0.8:161'\ncommunity = 'other'\n" USERS ACCESS RECEIVERS;
+
+static const char informing[] = HEAD DEVICE USERS ACCESS INFORMED;
 
 /* coldStart of a device with the community "public" */
 static const uint8_t trap[] = "\x30\x40\x02\x01\x01\x04\x06public\xa7\x33\x02\x01\x07\x02\x01\x00\x02\x01\x00\x30\x28\x30\x0d\x06\x08\x2b\x06\x01\x02\x01\x01\x03"
@@ -46,6 +50,7 @@ static void nothing_given(void) {
     snmpsec_forward_free(NULL);
     check("no place", SNMPSEC_BAD_ARGUMENT, made(text, NULL));
     check("no forwarder: take_trap", SNMPSEC_BAD_ARGUMENT, snmpsec_forward_take_trap(NULL, 0, NULL, 0, &event));
+    check("no forwarder: take_receiver", SNMPSEC_BAD_ARGUMENT, snmpsec_forward_take_receiver(NULL, 0, 0, NULL, 0, &event));
     check("no forwarder: next", SNMPSEC_BAD_ARGUMENT, snmpsec_forward_next(NULL, 0, 0, 0, &event, &why));
     check("no forwarder: due", SNMPSEC_BAD_ARGUMENT, snmpsec_forward_due(NULL, &at));
     check("no forwarder: message", SNMPSEC_BAD_ARGUMENT, snmpsec_forward_message(NULL, NULL, 0, &len));
@@ -119,6 +124,232 @@ static void many(void) {
     snmpsec_forward_free(forward);
 }
 
+/* ---- Informs, to an engine that the test plays */
+
+static const uint8_t junk[] = "\x30\x03\x02\x01\x03";
+
+struct datagram { uint8_t octets[SNMPSEC_LARGEST]; size_t len; };
+
+static snmpsec_agent *played(const char *users) {
+    snmpsec_agent *agent = NULL;
+    check("the receiver's engine", 0, snmpsec_agent_new((const uint8_t *)users, strlen(users), engine, sizeof engine, BOOTS, NOW - TIME, &agent));
+    return agent;
+}
+
+static snmpsec_forward_info numbers_of(const char *name, snmpsec_forward *forward) {
+    snmpsec_forward_info info = {0};
+    check(name, 0, snmpsec_forward_numbers(forward, &info));
+    return info;
+}
+
+/* What is done next, at this moment, and the numbers of it. */
+static snmpsec_forward_info goes_out(const char *name, snmpsec_forward *forward, uint64_t now, snmpsec_forward_event wanted, int reason) {
+    static uint32_t ask_id;
+    snmpsec_forward_event event = SNMPSEC_FORWARD_WAITS;
+    int why = 1;
+    ask_id++;
+    check(name, 0, snmpsec_forward_next(forward, now, ask_id, ask_id, &event, &why));
+    check(name, wanted, event);
+    check(name, reason, why);
+    return numbers_of(name, forward);
+}
+
+/* What becomes of a datagram of this receiver, and the numbers of it. */
+static snmpsec_forward_info hears(const char *name, snmpsec_forward *forward, size_t receiver, const struct datagram *from, snmpsec_forward_event wanted) {
+    snmpsec_forward_event event = SNMPSEC_FORWARD_NOTHING;
+    check(name, 0, snmpsec_forward_take_receiver(forward, 1000, receiver, fenced(from->octets, from->len), from->len, &event));
+    check(name, wanted, event);
+    return numbers_of(name, forward);
+}
+
+/* Such a message is sent for an Inform. */
+static struct datagram sends(const char *name, snmpsec_forward *forward, uint64_t now, snmpsec_inform_message wanted) {
+    struct datagram sent = {.len = 0};
+    check(name, wanted, (long long)goes_out(name, forward, now, SNMPSEC_FORWARD_INFORM_TO_RECEIVER, 0).message);
+    check(name, 0, snmpsec_forward_message(forward, sent.octets, sizeof sent.octets, &sent.len));
+    return sent;
+}
+
+/* What the receiver's engine answers: a Report, or the Response. */
+static struct datagram answered(const char *name, snmpsec_agent *agent, const struct datagram *asked) {
+    struct datagram answer = {.len = 0};
+    if (!snmpsec_agent_take(agent, NOW, asked->octets, asked->len)) check(name, 0, snmpsec_agent_respond(agent, NOW, 0, 0, NULL, 0, 1));
+    check(name, 0, snmpsec_agent_message(agent, answer.octets, sizeof answer.octets, &answer.len));
+    return answer;
+}
+
+/* A Trap of the device begins to wait as an Inform. */
+static void begins(snmpsec_forward *forward) {
+    becomes("a Trap", forward, 0, trap, TRAP, SNMPSEC_FORWARD_WAITS);
+    goes_out("begins", forward, 1000, SNMPSEC_FORWARD_INFORM_BEGINS, 0);
+}
+
+/* A forwarder that has found the receiver's engine and its time, and sends an Inform to it. */
+static snmpsec_forward *informed(snmpsec_agent *agent, struct datagram *inform) {
+    snmpsec_forward *forward;
+    check("new", 0, made(informing, &forward));
+    begins(forward);
+    for (snmpsec_inform_message which = SNMPSEC_INFORM_DISCOVERY; which < SNMPSEC_INFORM_ITSELF; which++) {
+        struct datagram asked = sends("before the Inform", forward, 1000, which), answer = answered("a Report", agent, &asked);
+        hears("is heard", forward, 0, &answer, SNMPSEC_FORWARD_HEARD);
+    }
+    *inform = sends("the Inform", forward, 1000, SNMPSEC_INFORM_ITSELF);
+    return forward;
+}
+
+static void informs(void) {
+    snmpsec_agent *agent = played(USERS);
+    snmpsec_forward *forward;
+    snmpsec_forward_event event;
+    snmpsec_forward_info info;
+    uint64_t at = 7;
+    check("new", 0, made(informing, &forward));
+    check("nothing is due", SNMPSEC_NOTHING_TAKEN, snmpsec_forward_due(forward, &at));
+    becomes("a Trap", forward, 0, trap, TRAP, SNMPSEC_FORWARD_WAITS);
+    info = goes_out("begins", forward, 1000, SNMPSEC_FORWARD_INFORM_BEGINS, 0);
+    check("no notification waits", 0, (long long)info.waiting);
+    check("but an Inform", 1, (long long)info.informs);
+    check("of which nothing was sent", 0, (long long)info.message);
+    check("it is due", 0, snmpsec_forward_due(forward, &at));
+    check("at once", 1, at <= 1000);
+    struct datagram asked = sends("the discovery", forward, 1000, SNMPSEC_INFORM_DISCOVERY), answer = answered("a Report", agent, &asked);
+    goes_out("nothing more", forward, 1000, SNMPSEC_FORWARD_NOTHING, 0);
+    check("the answer is waited for", 0, snmpsec_forward_due(forward, &at));
+    check("for 5 seconds", 6000, (long long)at);
+    check("no message", SNMPSEC_NOT_MESSAGE, snmpsec_forward_take_receiver(forward, 1000, 0, junk, sizeof junk - 1, &event));
+    hears("of another receiver", forward, 1, &answer, SNMPSEC_FORWARD_NO_ANSWER);
+    info = hears("of the receiver", forward, 0, &answer, SNMPSEC_FORWARD_HEARD);
+    check("nothing is to be sent", 0, (long long)info.message);
+    asked = sends("for the time", forward, 1000, SNMPSEC_INFORM_TIME);
+    answer = answered("a Report", agent, &asked);
+    hears("the time", forward, 0, &answer, SNMPSEC_FORWARD_HEARD);
+    asked = sends("the Inform", forward, 1000, SNMPSEC_INFORM_ITSELF);
+    check("has no community", 1, memmem(asked.octets, asked.len, "public", 6) == NULL);
+    check("has no context that can be read", 1, memmem(asked.octets, asked.len, "pdu", 3) == NULL);
+    check("names its user", 1, memmem(asked.octets, asked.len, "ann", 3) != NULL);
+    answer = answered("the Response", agent, &asked);
+    hears("the Response of another receiver", forward, 1, &answer, SNMPSEC_FORWARD_NO_ANSWER);
+    info = hears("the Response", forward, 0, &answer, SNMPSEC_FORWARD_ACKNOWLEDGED);
+    check("to the Inform", 0, (long long)info.inform);
+    check("none waits", 0, (long long)info.informs);
+    hears("the Response once more", forward, 0, &answer, SNMPSEC_FORWARD_NO_ANSWER);
+    check("nothing is due any more", SNMPSEC_NOTHING_TAKEN, snmpsec_forward_due(forward, &at));
+    snmpsec_forward_free(forward);
+    snmpsec_agent_free(agent);
+}
+
+/* The receiver's engine refuses the Inform, by a Report with authentication. */
+static void denied(void) {
+    snmpsec_agent *agent = played(USERS);
+    struct datagram inform, report;
+    snmpsec_forward *forward = informed(agent, &inform);
+    check("the Inform is taken", 0, snmpsec_agent_take(agent, NOW, inform.octets, inform.len));
+    check("and refused", 0, snmpsec_agent_refuse(agent, NOW, SNMPSEC_UNKNOWN_CONTEXTS, 2));
+    check("by a Report", 0, snmpsec_agent_message(agent, report.octets, sizeof report.octets, &report.len));
+    snmpsec_forward_info info = hears("the Report", forward, 0, &report, SNMPSEC_FORWARD_DENIED);
+    check("for its context", SNMPSEC_UNKNOWN_CONTEXTS, (long long)info.counter);
+    check("none waits", 0, (long long)info.informs);
+    check("the counter is of that call alone", 0, (long long)goes_out("nothing", forward, 1000, SNMPSEC_FORWARD_NOTHING, 0).counter);
+    snmpsec_forward_free(forward);
+    snmpsec_agent_free(agent);
+}
+
+/* An Inform without an answer is given up after three tries. Its receiver's engine doesn't know the user. */
+static void given_up(void) {
+    enum { UNKNOWN_USERS = 3 };
+    snmpsec_agent *agent = played("[[user]]\nname = 'cid'\n");
+    snmpsec_forward *forward;
+    snmpsec_forward_info info;
+    uint64_t now = 1000;
+    check("new", 0, made(informing, &forward));
+    begins(forward);
+    begins(forward);
+    struct datagram asked = sends("the discovery", forward, now, SNMPSEC_INFORM_DISCOVERY), answer = answered("a Report", agent, &asked);
+    sends("the second discovery", forward, now, SNMPSEC_INFORM_DISCOVERY);
+    hears("the first is answered", forward, 0, &answer, SNMPSEC_FORWARD_HEARD);
+    for (int i = 0; i < 3; i++, now += 5000) {
+        asked = sends("for the time", forward, now, SNMPSEC_INFORM_TIME);
+        answer = answered("a Report", agent, &asked);
+        hears("that anybody can have sent", forward, 0, &answer, SNMPSEC_FORWARD_HEARD);
+        if (i) sends("the second discovery again", forward, now, SNMPSEC_INFORM_DISCOVERY);
+    }
+    info = goes_out("the first is given up", forward, now, SNMPSEC_FORWARD_INFORM_GIVEN_UP, 0);
+    check("the first", 0, (long long)info.inform);
+    check("for its user", UNKNOWN_USERS, (long long)info.counter);
+    info = goes_out("the second is given up", forward, now, SNMPSEC_FORWARD_INFORM_GIVEN_UP, 0);
+    check("the second", 1, (long long)info.inform);
+    check("without a Report", 0, (long long)info.counter);
+    check("none waits", 0, (long long)info.informs);
+    snmpsec_forward_free(forward);
+    snmpsec_agent_free(agent);
+}
+
+static size_t put(uint8_t *out, uint8_t tag, size_t len) {
+    out[0] = tag;
+    out[1] = 0x82;
+    out[2] = (uint8_t)(len >> 8);
+    out[3] = (uint8_t)len;
+    return 4;
+}
+
+/* The Trap with a third variable of many octets, so that it fits into a datagram, and a message of SNMPv3 with it doesn't. */
+static size_t long_trap(uint8_t *out) {
+    enum { VALUE = 65350, BINDING = 8 + 4 + VALUE, LIST = 40 + 4 + BINDING, PDU = 9 + 4 + LIST };
+    size_t at = put(out, 0x30, 11 + 4 + PDU);
+    memcpy(out + at, trap + 2, 11);
+    at += 11;
+    at += put(out + at, 0xa7, PDU);
+    memcpy(out + at, trap + 15, 9);
+    at += 9;
+    at += put(out + at, 0x30, LIST);
+    memcpy(out + at, trap + 26, 40);
+    at += 40;
+    at += put(out + at, 0x30, BINDING);
+    memcpy(out + at, "\x06\x06\x2b\x06\x01\x02\x01\x01", 8);
+    at += 8;
+    at += put(out + at, 0x04, VALUE);
+    memset(out + at, 'x', VALUE);
+    return at + VALUE;
+}
+
+/* A notification that is too long is sent neither as a Trap nor as an Inform. */
+static void too_long(void) {
+    static uint8_t octets[SNMPSEC_LARGEST];
+    size_t len = long_trap(octets);
+    snmpsec_agent *agent = played(USERS);
+    struct datagram asked, answer;
+    snmpsec_forward *forward = informed(agent, &asked);
+    answer = answered("the Response", agent, &asked);
+    hears("the Response", forward, 0, &answer, SNMPSEC_FORWARD_ACKNOWLEDGED);
+    becomes("a long Trap", forward, 0, octets, len, SNMPSEC_FORWARD_WAITS);
+    goes_out("begins", forward, 1000, SNMPSEC_FORWARD_INFORM_BEGINS, 0);
+    asked = sends("the discovery", forward, 1000, SNMPSEC_INFORM_DISCOVERY);
+    answer = answered("a Report", agent, &asked);
+    hears("is heard", forward, 0, &answer, SNMPSEC_FORWARD_HEARD);
+    snmpsec_forward_info info = goes_out("not as an Inform", forward, 1000, SNMPSEC_FORWARD_INFORM_UNSENT, SNMPSEC_TOO_LARGE);
+    check("the second", 1, (long long)info.inform);
+    check("none waits", 0, (long long)info.informs);
+    snmpsec_forward_free(forward);
+    check("new", 0, made(text, &forward));
+    becomes("a long Trap", forward, 0, octets, len, SNMPSEC_FORWARD_WAITS);
+    goes_out("not as a Trap", forward, 1000, SNMPSEC_FORWARD_UNSENT, SNMPSEC_TOO_LARGE);
+    snmpsec_forward_free(forward);
+    snmpsec_agent_free(agent);
+}
+
+/* As many Informs wait as notifications may. */
+static void many_informs(void) {
+    enum { LIMIT = 1024 };
+    snmpsec_forward *forward;
+    check("new", 0, made(informing, &forward));
+    for (size_t i = 0; i < LIMIT; i++) begins(forward);
+    becomes("a Trap", forward, 0, trap, TRAP, SNMPSEC_FORWARD_WAITS);
+    snmpsec_forward_info info = goes_out("no room", forward, 1000, SNMPSEC_FORWARD_INFORM_NO_ROOM, 0);
+    check("for the last", LIMIT, (long long)info.notification);
+    check("as many wait", LIMIT, (long long)info.informs);
+    snmpsec_forward_free(forward);
+}
+
 static void settings(void) {
     static const uint32_t trap_oid[] = {1, 3, 6, 1, 6, 3, 1, 1, 4, 1, 0}, none[] = {1, 2, 840};
     static const struct { snmpsec_gate_text which; size_t position; const char *words; } all[] = {
@@ -179,13 +410,63 @@ static void refused_memory(void) {
     left = -1;
 }
 
+/* And so for what is sent for an Inform, and for its answer. */
+static void refused_memory_of_informs(void) {
+    snmpsec_agent *agent = played(USERS);
+    struct datagram asked, answer;
+    snmpsec_forward *forward = informed(agent, &asked);
+    snmpsec_forward_event event = SNMPSEC_FORWARD_NOTHING;
+    int done = SNMPSEC_OUT_OF_MEMORY, why;
+    for (long n = 0; done == SNMPSEC_OUT_OF_MEMORY && n < 1000; n++) {
+        left = n;
+        done = snmpsec_forward_next(forward, 6000, 1000 + (uint64_t)n, 1000, &event, &why);
+        left = -1;
+    }
+    check("the Inform once more, once there is enough", SNMPSEC_FORWARD_INFORM_TO_RECEIVER, event);
+    check("the datagram", 0, snmpsec_forward_message(forward, asked.octets, sizeof asked.octets, &asked.len));
+    answer = answered("the Response", agent, &asked);
+    done = SNMPSEC_OUT_OF_MEMORY;
+    for (long n = 0; done == SNMPSEC_OUT_OF_MEMORY && n < 1000; n++) {
+        left = n;
+        done = snmpsec_forward_take_receiver(forward, 6000, 0, answer.octets, answer.len, &event);
+        left = -1;
+    }
+    check("its answer, once there is enough", SNMPSEC_FORWARD_ACKNOWLEDGED, event);
+    left = 0;
+    snmpsec_forward_free(forward);
+    left = -1;
+    snmpsec_agent_free(agent);
+}
+
+/* Freeing gives back all, and wants no memory for that: as much is held after each further forwarder. */
+static void given_back(void) {
+    enum { ROUNDS = 4 };
+    size_t held[ROUNDS];
+    for (int i = 0; i < ROUNDS; i++) {
+        snmpsec_forward *forward;
+        check("new", 0, made(informing, &forward));
+        left = 0;
+        snmpsec_forward_free(forward);
+        left = -1;
+        held[i] = mallinfo2().uordblks;
+    }
+    check("all is given back", (long long)held[1], (long long)held[ROUNDS - 1]);
+}
+
 int main(int argc, char **argv) {
     read_capture(argc, argv);
     refused_texts();
     nothing_given();
     traps();
     many();
+    informs();
+    denied();
+    given_up();
+    too_long();
+    many_informs();
     settings();
     refused_memory();
+    refused_memory_of_informs();
+    given_back();
     return checks_told();
 }

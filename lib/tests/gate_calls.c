@@ -26,10 +26,13 @@ static void has(snmpsec_gate *gate, const char *name, snmpsec_gate_text which, s
     check(name, 0, memcmp(out, words, len));
 }
 
-static void settings(void) {
-    snmpsec_gate *gate;
+static int read_of(const char *words, snmpsec_gate **gate) {
+    return snmpsec_gate_read((const uint8_t *)words, strlen(words), gate);
+}
+
+/* What the configuration says, of a gateway or of what is read without one. */
+static void settings(snmpsec_gate *gate) {
     size_t len = 7;
-    check("new", 0, made(text, &gate));
     has(gate, "boots", SNMPSEC_GATE_BOOTS, 0, "/var/lib/boots");
     has(gate, "listen", SNMPSEC_GATE_LISTEN, 0, "192.0.2.1:161");
     has(gate, "the second address", SNMPSEC_GATE_LISTEN, 1, "[2001:db8::1]:161");
@@ -37,8 +40,33 @@ static void settings(void) {
     has(gate, "address", SNMPSEC_GATE_ADDRESS, 1, "10.1.0.8:161");
     has(gate, "note", SNMPSEC_GATE_NOTE, 0, "no access row fits its context");
     check("no third address", SNMPSEC_NOTHING_TAKEN, snmpsec_gate_setting(gate, SNMPSEC_GATE_LISTEN, 2, NULL, 0, &len));
-    check("no such setting", SNMPSEC_BAD_ARGUMENT, snmpsec_gate_setting(gate, (snmpsec_gate_text)9, 0, NULL, 0, &len));
+    check("no such setting", SNMPSEC_BAD_ARGUMENT, snmpsec_gate_setting(gate, (snmpsec_gate_text)10, 0, NULL, 0, &len));
     check("and nothing is written", 7, (long long)len);
+    snmpsec_gate_free(gate);
+}
+
+static void said(void) {
+    snmpsec_gate *gate;
+    check("new", 0, made(text, &gate));
+    settings(gate);
+    check("read", 0, read_of(text, &gate));
+    settings(gate);
+}
+
+/* What is read without a gateway has no devices that send, no users and nothing to do. */
+static void nobody_answered(void) {
+    snmpsec_gate *gate;
+    snmpsec_gate_event event = SNMPSEC_GATE_BEGINS;
+    snmpsec_gate_info info = {1, 1, 1, 1, 1, 1, 1, 1};
+    static const snmpsec_gate_info none;
+    int why = 0;
+    check("read", 0, read_of(text, &gate));
+    for (size_t i = 0; i < datagrams_len; i++)
+        check("each datagram is refused", 1, snmpsec_gate_take_client(gate, 1000, (const uint8_t *)"client", 6, datagrams[i], lengths[i], &event) > 0);
+    check("nothing is to be done", 0, snmpsec_gate_next(gate, 1000, 1, 1, &event, &why));
+    check("nothing", SNMPSEC_GATE_NOTHING, event);
+    check("numbers", 0, snmpsec_gate_numbers(gate, &info));
+    check("are 0", 0, memcmp(&info, &none, sizeof info));
     snmpsec_gate_free(gate);
 }
 
@@ -49,7 +77,10 @@ static void refused_texts(void) {
     snmpsec_gate *gate = (snmpsec_gate *)&len;
     check("a refused text", SNMPSEC_BAD_CONFIGURATION, made(bad, &gate));
     check("makes none", 1, gate == NULL);
+    check("a refused text is not read", SNMPSEC_BAD_CONFIGURATION, read_of(bad, &gate));
     check("nested too deep", SNMPSEC_BAD_CONFIGURATION, made(deep, &gate));
+    check("and not read", SNMPSEC_BAD_CONFIGURATION, read_of(deep, &gate));
+    check("and there is nothing", 1, gate == NULL);
     check("too many boots", SNMPSEC_BAD_ARGUMENT, snmpsec_gate_new((const uint8_t *)text, sizeof text - 1, 2147483648u, 0, &gate));
     check("why", SNMPSEC_BAD_CONFIGURATION, snmpsec_gate_fault((const uint8_t *)bad, sizeof bad - 1, out, sizeof out, &len));
     check("the line", 0, memcmp(out, "refused config device 0 BadKey\n", 31));
@@ -70,6 +101,7 @@ static void nothing_given(void) {
     int why;
     snmpsec_gate_free(NULL);
     check("no place", SNMPSEC_BAD_ARGUMENT, made(text, NULL));
+    check("no place: read", SNMPSEC_BAD_ARGUMENT, read_of(text, NULL));
     check("no gateway: take_client", SNMPSEC_BAD_ARGUMENT, snmpsec_gate_take_client(NULL, 0, NULL, 0, NULL, 0, &event));
     check("no gateway: take_device", SNMPSEC_BAD_ARGUMENT, snmpsec_gate_take_device(NULL, 0, 0, NULL, 0, &event));
     check("no gateway: next", SNMPSEC_BAD_ARGUMENT, snmpsec_gate_next(NULL, 0, 0, 0, &event, &why));
@@ -112,19 +144,26 @@ static void datagrams_refused(void) {
     snmpsec_gate_free(gate);
 }
 
-/* Each growth of memory is refused in turn, and nothing is lost. */
+/* Each growth of memory is refused in turn, until there is enough for this. */
+static void made_of_enough(int (*make)(const char *, snmpsec_gate **), snmpsec_gate **gate) {
+    int answer = SNMPSEC_OUT_OF_MEMORY;
+    for (long n = 0; answer == SNMPSEC_OUT_OF_MEMORY && n < 100000; n++) {
+        left = n;
+        answer = make(text, gate);
+        left = -1;
+        if (answer) check("no gateway without memory", 1, *gate == NULL);
+    }
+    check("made, once there is enough", 0, answer);
+}
+
+/* Nothing is lost. */
 static void refused_memory(void) {
     snmpsec_gate *gate;
     uint8_t out[100];
     size_t len;
-    int answer = SNMPSEC_OUT_OF_MEMORY;
-    for (long n = 0; answer == SNMPSEC_OUT_OF_MEMORY && n < 100000; n++) {
-        left = n;
-        answer = made(text, &gate);
-        left = -1;
-        if (answer) check("no gateway without memory", 1, gate == NULL);
-    }
-    check("new, once there is enough", 0, answer);
+    made_of_enough(read_of, &gate);
+    snmpsec_gate_free(gate);
+    made_of_enough(made, &gate);
     left = 0;
     check("a setting", SNMPSEC_OUT_OF_MEMORY, snmpsec_gate_setting(gate, SNMPSEC_GATE_ADDRESS, 0, out, sizeof out, &len));
     left = 0;
@@ -134,7 +173,8 @@ static void refused_memory(void) {
 
 int main(int argc, char **argv) {
     read_capture(argc, argv);
-    settings();
+    said();
+    nobody_answered();
     refused_texts();
     nothing_given();
     datagrams_refused();

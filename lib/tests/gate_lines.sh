@@ -4,7 +4,7 @@ counts=$own/counts
 asker="user sha256 from 127\.0\.0\.1:[0-9]*"
 
 counted() { # NAME SAMPLE: what the counts say
-    check "$1" "$2" "$(grep -F -- "${2% *} " "$counts")"
+    check "$1" "$2" "$(grep -F -- "${2% *} " "$counts" | grep -v '^#')"
 }
 
 test_lines_of_answers() {
@@ -24,6 +24,31 @@ test_lines_of_answers() {
     tells "has a line, too" '^device pdu sends an answer for which nothing waits$'
 }
 
+# answers_wrongly WRONG LINE COMMAND WORDS..: the device answers so, which is genErr, and the line tells why
+answers_wrongly() {
+    local line=$2
+    echo "$1" > "$own/wrong"
+    shift 2
+    has "an answer that doesn't fit" "genErr" "$(asks "$@")"
+    tells "with a line" "^device pdu answers wrongly to $line\$"
+    : > "$own/wrong"
+}
+
+test_lines_of_misfits() {
+    answers_wrongly fewer "get $system.1.0 and 1 more of $asker: it has 1 bindings, too few" get $system.1.0 $system.2.0
+    answers_wrongly more "get $system.1.0 of $asker: it has 2 bindings, too many" get $system.1.0
+    answers_wrongly same "get $system.1.0 and 1 more of $asker: binding 2 is $system.1.0, which isn't $system.2.0" get $system.1.0 $system.2.0
+    answers_wrongly same "getnext $system.3 of $asker: binding 1 is $system.3, which isn't after $system.3" get_next $system.3
+    answers_wrongly misspelled "get $system.1.0 and 1 more of $asker: binding 2, $system.2.0, has no value that can be read" get $system.1.0 $system.2.0
+}
+
+test_lines_of_rounds() {
+    echo slow > "$own/wrong"
+    has "a walk over what is hidden" "genErr" "$(asks get_next $rows)"
+    tells "has a line" "^$asker wants more than 64 rounds: getnext $rows"
+    : > "$own/wrong"
+}
+
 test_lines_of_silence() {
     echo silent > "$own/wrong"
     patience=1 asks get $system.1.0 $system.2.0 $system.3.0 > /dev/null
@@ -35,9 +60,17 @@ test_lines_of_silence() {
     tells "a context that is hard to print" "^device a\\\\x20\"b\\\\x5cc doesn't answer"
 }
 
+# The datagram that came last comes again, from another port.
+comes_again() {
+    python3 -c 'import socket, sys; socket.socket(socket.AF_INET, socket.SOCK_DGRAM).sendto(bytes.fromhex(sys.argv[1]), ("127.0.0.1", int(sys.argv[2])))' \
+        "$(tail -1 "$own/datagrams" | cut -d' ' -f2)" "$gate_port"
+}
+
 test_lines_of_sets() {
     has "a Set" "bob" "$(asks set_variables $system.4.0 s bob $system.5.0 s bobs)"
     tells "has a line with its outcome" "^set $system.4.0 and 1 more by $asker at device pdu: error-status 0 (noError), index 0\$"
+    comes_again
+    tells "and one where it comes again" "^a Set of before by $asker is told again: error-status 0 (noError), index 0\$"
     echo status=6 > "$own/wrong"
     has "a Set that the device refuses" "noAccess" "$(asks set_variables $system.4.0 s eve)"
     tells "has its line" "^set $system.4.0 by $asker at device pdu: error-status 6 (noAccess), index 1\$"
@@ -58,6 +91,12 @@ test_counts_told() {
     counted "what nothing waited for" 'snmpsec_gate_device_total{device="pdu",event="not_waited_for"} 1'
     counted "what is no Response" 'snmpsec_gate_device_total{device="pdu",event="unreadable"} 1'
     counted "an error-status" 'snmpsec_gate_answers_total{error_status="noAccess"} 1'
+    counted "one that a client was told" 'snmpsec_gate_responses_total{error_status="noAccess"} 1'
+    counted "a Report on a request" 'snmpsec_gate_request_reports_total 1'
+    counted "what didn't fit" 'snmpsec_gate_misfits_total{misfit="other_name"} 1'
+    counted "and what had no value" 'snmpsec_gate_misfits_total{misfit="no_value"} 1'
+    counted "what took too many rounds" 'snmpsec_gate_rounds_used_up_total 1'
+    counted "which device that was" 'snmpsec_gate_device_total{device="pdu",event="unfit"} 5'
     counted "one without a name" 'snmpsec_gate_answers_total{error_status="other"} 1'
     counted "a label with quotes" 'snmpsec_gate_device_total{device="a\\x20\"b\\x5cc",event="given_up"} 1'
     check "each sample is one of Prometheus" "" "$(grep -v -E '^(# TYPE [a-z_]+ (counter|gauge)|[a-z_]+(\{[a-z_]+="([^"\\]|\\.)*"(,[a-z_]+="([^"\\]|\\.)*")*\})? [0-9]+)$' "$counts")"
@@ -83,6 +122,8 @@ else
     begin_own_device
     begin_own "$programs/snmpsec-gate" --counts "$counts" --log-datagrams "$own/datagrams"
     test_lines_of_answers
+    test_lines_of_misfits
+    test_lines_of_rounds
     test_lines_of_silence
     test_lines_of_sets
     test_lines_of_refusals

@@ -35,7 +35,7 @@ static void begin_one(void) {
     plain[plain_len].number = next_number;
     plain[plain_len].messages = 1;
     plain[plain_len].times = plain[plain_len].ask_id = 0;
-    waiting_begins(next_number, &client, (const uint8_t *)&next_number, sizeof next_number);
+    waiting_begins(next_number, &client, (const uint8_t *)&next_number, sizeof next_number, next_number);
     plain_len++;
     next_number += 1 + made(3);
 }
@@ -101,16 +101,71 @@ static void whole_datagrams(void) {
     check("no such status", 1, status_name(19) == NULL);
 }
 
+/* What was asked for a binding of an answer to a GetBulkRequest of a non-repeater and a repeater. */
+static void asked_is(const struct waiting *request, const struct pdu *answer, size_t number, const char *expected) {
+    const uint8_t *name = NULL;
+    size_t len = 0;
+    char words[40] = "";
+    bool is_known = waiting_asked(request, answer, number, &name, &len);
+    if (is_known) name_words(name, len, words, sizeof words);
+    check(expected, 0, strcmp(words, expected));
+}
+
+static void what_was_asked(void) {
+    struct client client = {.listener = 1};
+    struct pdu ask, answer;
+    const uint8_t *name;
+    size_t len;
+    uint8_t of_one[sizeof asked];
+    memcpy(of_one, asked, sizeof asked);
+    of_one[20] = 1;
+    check("an ask", 1, pdu_of(of_one, sizeof of_one, &ask));
+    check("an answer", 1, pdu_of(asked, sizeof asked, &answer));
+    waiting_begins(1, &client, (const uint8_t *)"ann", 3, 7);
+    check("it is asked", 0, waiting_asks(1, &ask));
+    asked_is(waiting_of(1), &answer, 1, "1.3.6.1.2.1.1.5.0");
+    asked_is(waiting_of(1), &answer, 2, "1.3.6.1.2.1.1.4.0");
+    asked_is(waiting_of(1), &answer, 3, "1.3.6.1.2.1.1.4.0");
+    asked_is(waiting_of(1), &answer, 9, "");
+    check("no third name", 0, name_of(ask.list, ask.list_len, 3, &name, &len));
+    check("no name before the first", 0, name_of(ask.list, ask.list_len, 0, &name, &len));
+    answer.status = 0;
+    waiting_answers(1, &answer, true);
+    check("what ends with genErr took too many rounds", 1, waiting_used_up(waiting_of(1)));
+    waiting_answers(1, &answer, false);
+    check("but not by an answer that doesn't fit", 0, waiting_used_up(waiting_of(1)));
+    answer.status = 5;
+    waiting_answers(1, &answer, true);
+    check("nor by an error of the device", 0, waiting_used_up(waiting_of(1)));
+    waiting_ends(1);
+}
+
+static void sets_again(void) {
+    struct client client = {.listener = 1};
+    struct pdu set = {.tag = 0xA3, .request_id = 1, .names = 1};
+    uint64_t digest = digest_of(asked, sizeof asked);
+    check("another datagram has another digest", 1, digest != digest_of(answered, sizeof answered));
+    waiting_begins(2, &client, (const uint8_t *)"ann", 3, digest);
+    check("a Set for the first time", 0, waiting_of(2)->is_repeated);
+    (void)waiting_asks(2, &set);
+    waiting_begins(3, &client, (const uint8_t *)"ann", 3, digest);
+    check("and again", 1, waiting_of(3)->is_repeated);
+    waiting_clear();
+}
+
 static void broken_datagrams(void) {
     uint8_t copy[sizeof asked];
     struct pdu pdu;
     char words[40];
+    const uint8_t *name;
+    size_t name_len;
     for (size_t len = 0; len < sizeof asked; len++) check("a cut datagram", 0, pdu_of(fenced(asked, len), len, &pdu));
     for (size_t i = 0; i < sizeof asked; i++)
         for (int octet = 0; octet < 256; octet++) {
             memcpy(copy, asked, sizeof asked);
             copy[i] = (uint8_t)octet;
             if (pdu_of(fenced(copy, sizeof copy), sizeof copy, &pdu) && pdu.names) name_words(pdu.first, pdu.first_len, words, sizeof words);
+            (void)name_of(fenced(copy, sizeof copy), sizeof copy, 1 + (size_t)octet % 3, &name, &name_len);
         }
     check("a length of five octets", 0, pdu_of((const uint8_t *)"\x30\x85\0\0\0\0\1", 7, &pdu));
     check("no octets", 0, pdu_of(NULL, 0, &pdu));
@@ -151,6 +206,8 @@ static void limits(void) {
 int main(void) {
     requests();
     whole_datagrams();
+    what_was_asked();
+    sets_again();
     broken_datagrams();
     names();
     octets_shown();

@@ -12,12 +12,16 @@ sha1-priv sha1 authPriv all
 sha256-auth sha256 authNoPriv all
 sha256-priv sha256 authPriv most"
 
+# write_receiver USER LEVEL PORT [KIND]
+write_receiver() { printf '[[receiver]]\naddress = "127.0.0.1:%s"\nuser = "%s"\nlevel = "%s"\nkind = "%s"\n' "$3" "$1" "$2" "${4:-trap}"; }
+
+# The kind of receiver that each user is, or none, is in $traps_kind.
 write_traps_user() { # USER HASH LEVEL VIEW
     printf '[[user]]\nname = "%s"\n' "$1"
     if [ "$2" != none ]; then printf 'auth = "%s"\nauth-password = "maplesyrup"\npriv-password = "syrupmaple"\n' "$2"; fi
     printf '[[group]]\nmodel = 3\nname = "%s"\ngroup = "%s"\n' "$1" "$1"
     printf '[[access]]\ngroup = "%s"\nprefix = "p"\nmatch = "prefix"\nmodel = 3\nlevel = "%s"\nnotify = "%s"\n' "$1" "$3" "$4"
-    printf '[[receiver]]\naddress = "127.0.0.1:%s"\nuser = "%s"\nlevel = "%s"\n' "$traps_to" "$1" "$3"
+    case ${traps_kind:-trap} in none) ;; *) write_receiver "$1" "$3" "$traps_to" "${traps_kind:-trap}" ;; esac
 }
 
 write_traps_config() { # the receivers that it has
@@ -55,14 +59,14 @@ CONF
     while read -r -a words; do write_traps_user "${words[@]}"; done <<< "$1" >> "$traps/gate.toml"
 }
 
-write_snmptrapd() {
+write_snmptrapd() { # [-e ENGINE]: Traps are of the sender's engine, and Informs of snmptrapd's own
     local user hash level
     while read -r user hash level _; do
         case $hash in
-        none) echo "createUser -e 0x$trap_engine $user" ;;
-        md5) echo "createUser -e 0x$trap_engine $user MD5 maplesyrup AES syrupmaple" ;;
-        sha1) echo "createUser -e 0x$trap_engine $user SHA maplesyrup AES syrupmaple" ;;
-        sha256) echo "createUser -e 0x$trap_engine $user SHA-256 maplesyrup AES syrupmaple" ;;
+        none) echo "createUser $* $user" ;;
+        md5) echo "createUser $* $user MD5 maplesyrup AES syrupmaple" ;;
+        sha1) echo "createUser $* $user SHA maplesyrup AES syrupmaple" ;;
+        sha256) echo "createUser $* $user SHA-256 maplesyrup AES syrupmaple" ;;
         esac
         case $level in
         noAuthNoPriv) echo "authUser log $user noauth" ;;
@@ -105,10 +109,10 @@ until_got() {
     done
 }
 
-# in_file NAME FILE PATTERN: it is there within 10 seconds
+# in_file NAME FILE PATTERN: it is there within 20 seconds
 in_file() {
     local tries
-    for tries in {1..100}; do
+    for tries in {1..200}; do
         if grep -q -- "$3" "$2"; then passed=$((passed + 1)); return; fi
         sleep 0.1
     done
@@ -120,10 +124,10 @@ begin_lines() { : > "$traps/err"; : > "$traps/got"; }
 test_traps_checked() {
     local out
     out=$("$programs/snmpsec-gate" --check "$traps/gate.toml" 2>&1)
-    has "--check: a receiver" "user md5-priv at 127.0.0.1:$traps_to, authPriv: notified of pdu pump" "$out"
+    has "--check: a receiver" "user md5-priv at 127.0.0.1:$traps_to, authPriv, by Traps: notified of pdu pump" "$out"
     check "--check: each receiver" 7 "$(grep -c notified <<< "$out")"
     sed 's/^notify = .*/notify = "none"/' "$traps/gate.toml" > "$traps/none.toml"
-    has "--check: a view that there isn't" "noAuthNoPriv: notified of no device" "$("$programs/snmpsec-gate" --check "$traps/none.toml" 2>&1)"
+    has "--check: a view that there isn't" "noAuthNoPriv, by Traps: notified of no device" "$("$programs/snmpsec-gate" --check "$traps/none.toml" 2>&1)"
     sed 's/127.0.0.2:161/127.0.0.1:1161/' "$traps/gate.toml" > "$traps/none.toml"
     has "--check: two devices at one address" "device pump: device pdu has its address, so" "$("$programs/snmpsec-gate" --check "$traps/none.toml" 2>&1)"
     grep -v ^traps "$traps/gate.toml" > "$traps/none.toml"
@@ -160,6 +164,20 @@ test_traps_dropped() {
     in_file "an Inform" "$traps/err" '^device pdu sends a message of SNMPv2c that is no SNMPv2-Trap$'
     sleep 0.3
     check "nothing of it comes out" "" "$(cat "$traps/got")"
+}
+
+# The Trap by which net-snmp's agent says that it began.
+test_traps_of_snmpd() {
+    if ! command -v snmpd > /dev/null; then echo "skipped: snmpd's Traps through the gateway: it isn't installed"; return; fi
+    begin_lines
+    printf 'agentAddress udp:127.0.0.1:%s\nrocommunity reads\ntrap2sink 127.0.0.1:%s reads\n' $((port + 21)) "$traps_at" > "$traps/snmpd.conf"
+    SNMPCONFPATH=$traps/none SNMP_PERSISTENT_DIR=$traps/snmpd snmpd -f -C -c "$traps/snmpd.conf" -Lf "$traps/snmpd.log" -I -smux > /dev/null 2>&1 &
+    local agent=$!
+    pids+=("$agent")
+    in_file "snmpd's coldStart is sent on" "$traps/err" "^device pdu notifies of 1\.3\.6\.1\.6\.3\.1\.1\.5\.1: sent to user sha256-auth at"
+    in_file "and snmptrapd gets it" "$traps/got" "user sha256-auth, context pdu, .*OID: \.1\.3\.6\.1\.6\.3\.1\.1\.5\.1"
+    kill "$agent"
+    wait "$agent" 2> /dev/null
 }
 
 test_traps_counted() {
@@ -209,7 +227,7 @@ if ! command -v snmptrapd > /dev/null || ! command -v snmptrap > /dev/null; then
 else
     mkdir -p -m 700 "$traps/boots"
     write_traps_config "$receivers"
-    write_snmptrapd
+    write_snmptrapd -e "0x$trap_engine"
     begin_snmptrapd
     begin_traps
     test_traps_checked
@@ -217,6 +235,7 @@ else
     test_traps_dropped
     test_traps_counted
     test_traps_reloaded
+    test_traps_of_snmpd
     test_receiver_away
     kill "$gate" "$snmptrapd"
     wait "$gate" "$snmptrapd" 2> /dev/null

@@ -2,6 +2,8 @@
 gate_port=$((port + 15)) device_port=$((port + 16))
 through=127.0.0.1:$gate_port beside=127.0.0.1:$device_port
 own=$work/own_gate
+# ifEntry, of which the users see the row 7
+rows=1.3.6.1.2.1.2.2.1
 
 # write_own_config [GATE-LINE..]: a device with the context pdu, and one whose context is hard to print, which doesn't answer
 write_own_config() {
@@ -44,6 +46,15 @@ write = "all"
 [[family]]
 view = "all"
 subtree = "1.3.6.1"
+include = true
+[[family]]
+view = "all"
+subtree = "$rows"
+include = false
+[[family]]
+view = "all"
+subtree = "$rows.0.7"
+mask = "ffa0"
 include = true
 CONF
         for user in plain md sha sha256; do

@@ -29,3 +29,5 @@ void snmpsec_inside_free_handle(void *handle, int32_t (*clear)(void *handle)) {
     clear(handle);
     free(handle);
 }
+
+void snmpsec_inside_free_large_handle(void *handle, int32_t (*clear)(void *handle)) { snmpsec_inside_free_handle(handle, clear); }

@@ -15,17 +15,15 @@ import sys
 LIB = pathlib.Path(__file__).resolve().parents[1]
 sys.path.insert(0, str(LIB / "python/src"))
 import snmpsec  # noqa: E402
-from snmpsec import _library, gate  # noqa: E402
+from snmpsec import _library, forward, gate  # noqa: E402
 
 HEADER = (LIB / "include/snmpsec.h").read_text()
 DECLARED = set(re.findall(r"\bsnmpsec_(\w+)\(", HEADER))
 # what a wrapper builds from other calls, or has of its own
-# and what no wrapper has yet
-NOT_YET = {name for name in DECLARED if name.startswith("forward_")} | {"gate_may_notify"}
-NOT_IN_PYTHON = {"agent_allows", "agent_user_allows", "wipe"} | NOT_YET
-NOT_IN_RUST = {"agent_allows", "agent_user_allows", "error_name"} | NOT_YET
+NOT_IN_PYTHON = {"agent_allows", "agent_user_allows", "wipe"}
+NOT_IN_RUST = {"agent_allows", "agent_user_allows", "error_name"}
 
-STRUCTS = {"Octets": "octets", "Info": "info", "Counters": "counters", "Counts": "counts", "Report": "report", "Reply": "reply", "Answered": "answered", "Heard": "answered", "Device": "device", "Clock": "clock", "ConfigPlace": "config_place", "GateInfo": "gate_info", "Notice": "notice", "Request": "request",
+STRUCTS = {"Octets": "octets", "Info": "info", "Counters": "counters", "Counts": "counts", "Report": "report", "Reply": "reply", "Answered": "answered", "Heard": "answered", "Device": "device", "Clock": "clock", "ConfigPlace": "config_place", "GateInfo": "gate_info", "ForwardInfo": "forward_info", "Notice": "notice", "Request": "request",
            "BindingRead": "binding"}
 READ = {"Octets", "Notice", "Request", "Heard"}  # structs that a call only reads
 
@@ -75,7 +73,8 @@ def python_fields():
             yield f"offsetof(snmpsec_{c}, {name}) == {place.offset} && sizeof(((snmpsec_{c} *)0)->{name}) == {place.size}"
 
 
-PYTHON_PREFIXES = {snmpsec.Known: "KNOWN_", gate.GateEvent: "GATE_", gate._Text: "GATE_"}
+PYTHON_PREFIXES = {snmpsec.Known: "KNOWN_", gate.GateEvent: "GATE_", gate._Text: "GATE_", gate.Misfit: "MISFIT_", forward.ForwardEvent: "FORWARD_",
+                   forward.InformMessage: "INFORM_"}
 
 
 def python_numbers():

@@ -182,7 +182,7 @@ static int measure_gate(void) {
     return 0;
 }
 
-/* ---- a forwarder, which sends a device's Trap on */
+/* ---- a forwarder, which sends a device's Trap on, to one receiver as a Trap and to another as an Inform */
 
 static const char forward_config[] = "[gate]\nengine = '80001f880478'\nboots = '/boots'\nlisten = ['127.0.0.1:161']\ntraps = ['127.0.0.1:162']\n"
     "[[device]]\ncontext = ''\naddress = '127.0.0.1:162'\ncommunity = 'public'\n"
@@ -190,7 +190,8 @@ static const char forward_config[] = "[gate]\nengine = '80001f880478'\nboots = '
     "[[group]]\nmodel = 3\nname = 'bob'\ngroup = 'all'\n"
     "[[access]]\ngroup = 'all'\nprefix = ''\nmodel = 3\nlevel = 'noAuthNoPriv'\nmatch = 'exact'\nnotify = 'all'\n"
     "[[family]]\nview = 'all'\nsubtree = '1.3'\ninclude = true\n"
-    "[[receiver]]\naddress = '127.0.0.1:163'\nuser = 'bob'\nlevel = 'authPriv'\n";
+    "[[receiver]]\naddress = '127.0.0.1:163'\nuser = 'bob'\nlevel = 'authPriv'\n"
+    "[[receiver]]\naddress = '127.0.0.1:164'\nuser = 'bob'\nlevel = 'authPriv'\nkind = 'inform'\n";
 static const uint8_t trap[] = "\x30\x40\x02\x01\x01\x04\x06public\xa7\x33\x02\x01\x07\x02\x01\x00\x02\x01\x00\x30\x28\x30\x0d\x06\x08\x2b\x06\x01\x02\x01\x01"
     "\x03\x00\x43\x01\x05\x30\x17\x06\x0a\x2b\x06\x01\x06\x03\x01\x01\x04\x01\x00\x06\x09\x2b\x06\x01\x06\x03\x01\x01\x05\x01";
 static snmpsec_forward *forward;
@@ -202,15 +203,38 @@ static void forward_next(void) {
     id++;
     answer = snmpsec_forward_next(forward, NOW * 1000, id, id, &told, &why);
 }
+static void forward_take_receiver(void) { answer = snmpsec_forward_take_receiver(forward, NOW * 1000, 1, message, len, &told); }
 static void forward_free(void) { snmpsec_forward_free(forward); answer = 0; }
 
+/* The receiver's engine answers what is sent for an Inform. */
+static int answer_of_receiver(snmpsec_agent *receiver) {
+    if (snmpsec_forward_message(forward, message, sizeof message, &len)) return 1;
+    if (!snmpsec_agent_take(receiver, NOW, message, len) && snmpsec_agent_respond(receiver, NOW, 0, 0, NULL, 0, id)) return 1;
+    return snmpsec_agent_message(receiver, message, sizeof message, &len);
+}
+
+static int measure_inform(snmpsec_agent *receiver) {
+    measure("forward_next, an Inform begins", forward_next, SNMPSEC_DEEP_STACK);
+    if (answer || told != SNMPSEC_FORWARD_INFORM_BEGINS) return 1;
+    do {
+        measure("forward_next for an Inform", forward_next, SNMPSEC_DEEP_STACK);
+        if (answer || told != SNMPSEC_FORWARD_INFORM_TO_RECEIVER || answer_of_receiver(receiver)) return 1;
+        measure("forward_take_receiver", forward_take_receiver, SNMPSEC_DEEP_STACK);
+    } while (!answer && told == SNMPSEC_FORWARD_HEARD);
+    return answer || told != SNMPSEC_FORWARD_ACKNOWLEDGED;
+}
+
 static int measure_forward(void) {
+    static const uint8_t other_engine[] = {0x80, 0, 0x1f, 0x88, 4, 'y'};
+    snmpsec_agent *receiver;
+    if (snmpsec_agent_new((const uint8_t *)users, sizeof users - 1, other_engine, sizeof other_engine, 5, NOW - 100, &receiver)) return 1;
     measure("forward_new", forward_new, SNMPSEC_DEEP_STACK);
     if (answer) return 1;
     measure("forward_take_trap", forward_take_trap, SNMPSEC_DEEP_STACK);
     if (answer || told != SNMPSEC_FORWARD_WAITS) return 1;
     measure("forward_next", forward_next, SNMPSEC_DEEP_STACK);
-    if (answer || told != SNMPSEC_FORWARD_TO_RECEIVER) return 1;
+    if (answer || told != SNMPSEC_FORWARD_TO_RECEIVER || measure_inform(receiver)) return 1;
+    snmpsec_agent_free(receiver);
     measure("forward_free", forward_free, SNMPSEC_DEEP_STACK);
     return 0;
 }

@@ -4,7 +4,7 @@ import tempfile
 import unittest
 
 import snmpsec
-from snmpsec import Gate, GateEvent, Level, Manager, Part, Refusal, datagram_user, gate_fault
+from snmpsec import Gate, GateEvent, Level, Manager, Misfit, Part, Refusal, datagram_user, gate_fault
 from test_snmpsec import ALLOWING, BOOTS, HELLO, NOW, TIME, ask
 
 GATE = b"""
@@ -86,15 +86,26 @@ class Gateway(unittest.TestCase):
             self.assertGreater(self.gate.due(), MOMENT)
             answer = answered(sent.datagram, HELLO)
             self.assertEqual(self.gate.take_device(MOMENT, 0, answer), GateEvent.ANSWERS)
+            self.assertEqual(self.gate.answer()[1:], (None, None))
             self.assertEqual(self.gate.take_device(MOMENT, 0, answer), GateEvent.NOT_WAITED_FOR)
             self.assertEqual(self.gate.take_device(MOMENT, 0, b"junk"), GateEvent.UNREADABLE)
             for more in (1, 2):
                 sent = self.gate.next(MOMENT, 10 * number + more, 1)
                 self.assertEqual((sent.event, sent.client, sent.device), (GateEvent.TO_CLIENT, b"client", None))
+                self.assertEqual((sent.status, sent.index), (0, 0))
                 self.assertIsNone(self.manager.take(NOW, sent.datagram))
                 self.assertEqual(self.manager.part(Part.BINDINGS), HELLO)
             self.assertIsNone(self.gate.next(MOMENT, 10 * number + 3, 1))
             self.assertIsNone(self.gate.due())
+
+    def test_an_answer_of_another_name_is_told(self):
+        self.learn()
+        self.gate.take_client(MOMENT, b"client", self.ask(2, Level.AUTH_PRIV))
+        other = snmpsec.binding((1, 3, 6, 1), 4, b"router")
+        self.assertEqual(self.gate.take_device(MOMENT, 0, answered(self.gate.next(MOMENT, 1, 1).datagram, other)), GateEvent.ANSWERS)
+        self.assertEqual(self.gate.answer()[1:], (Misfit.OTHER_NAME, 1))
+        sent = self.gate.next(MOMENT, 2, 2)
+        self.assertEqual((sent.status, sent.index), (5, 0))
 
     def test_a_device_is_given_up(self):
         self.learn()
@@ -113,21 +124,26 @@ class Gateway(unittest.TestCase):
     def test_another_context_is_reported(self):
         self.learn()
         self.gate.take_client(MOMENT, b"client", self.ask(2, Level.AUTH_PRIV, context=b"other"))
-        self.manager.take(NOW, self.gate.next(MOMENT, 1, 1).datagram)
+        sent = self.gate.next(MOMENT, 1, 1)
+        self.assertEqual((sent.status, sent.index), (None, None))
+        self.manager.take(NOW, sent.datagram)
         self.assertEqual(self.manager.report().counter, snmpsec.Unhandled.UNKNOWN_CONTEXTS)
         self.assertEqual(self.gate.counts().unknown_contexts, 1)
 
     def test_what_a_configuration_says(self):
-        self.assertEqual(self.gate.boots_path(), "/var/lib/boots")
-        self.assertEqual(self.gate.listen(), ["192.0.2.1:161", "[2001:db8::1]:161"])
-        [device] = self.gate.devices()
-        self.assertEqual((device.context, device.address), (b"pdu", "10.1.0.7:161"))
-        self.assertEqual(device.note, "access 0 gives a write view, and it has no write-community")
+        for gate in (self.gate, Gate.read(GATE)):
+            self.assertEqual(gate.boots_path(), "/var/lib/boots")
+            self.assertEqual(gate.listen(), ["192.0.2.1:161", "[2001:db8::1]:161"])
+            [device] = gate.devices()
+            self.assertEqual((device.context, device.address), (b"pdu", "10.1.0.7:161"))
+            self.assertEqual(device.note, "access 0 gives a write view, and it has no write-community")
 
     def test_a_refused_configuration_has_its_cause(self):
         text = GATE.replace(b"address", b"adress")
         with self.assertRaisesRegex(snmpsec.BadConfiguration, "refused config device 0 BadKey\n"):
             Gate(text, 1, 0)
+        with self.assertRaisesRegex(snmpsec.BadConfiguration, "refused config device 0 BadKey\n"):
+            Gate.read(text)
         self.assertIn("the nearest is address", gate_fault(text))
         self.assertIsNone(gate_fault(GATE))
         with self.assertRaises(snmpsec.BadArgument):

@@ -100,7 +100,7 @@ pub fn status_of(access: Access, pdu: Pdu) -> Result<Status, Error> {
 }
 
 /// Whether a call answers that access is allowed, or why not.
-fn told(call: impl FnOnce(*mut u32) -> i32) -> Result<Access, Error> {
+pub(crate) fn told(call: impl FnOnce(*mut u32) -> i32) -> Result<Access, Error> {
     let mut access = 0;
     done(call(&mut access))?;
     Access::of(access).ok_or(Error::Other(access as i32))

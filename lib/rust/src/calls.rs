@@ -122,10 +122,27 @@ pub struct ConfigPlace {
 
 #[repr(C)]
 #[derive(Default)]
+pub struct ForwardInfo {
+    pub notification: u64,
+    pub receiver: u64,
+    pub waiting: u64,
+    pub inform: u64,
+    pub informs: u64,
+    pub message: u64,
+    pub counter: u64,
+}
+
+#[repr(C)]
+#[derive(Default)]
 pub struct GateInfo {
     pub request: u64,
     pub device: u64,
     pub waiting: u64,
+    pub status: u64,
+    pub index: u64,
+    pub is_report: u64,
+    pub misfit: u64,
+    pub binding: u64,
 }
 
 #[repr(C)]
@@ -472,6 +489,7 @@ extern "C" {
         len: usize,
         written: *mut usize,
     ) -> i32;
+    pub fn snmpsec_gate_read(config: *const u8, config_len: usize, out: *mut *mut Opaque) -> i32;
     pub fn snmpsec_gate_new(
         config: *const u8,
         config_len: usize,
@@ -528,6 +546,53 @@ extern "C" {
     pub fn snmpsec_gate_numbers(gate: *mut Opaque, out: *mut GateInfo) -> i32;
     pub fn snmpsec_gate_counters(gate: *mut Opaque, out: *mut Counters) -> i32;
     pub fn snmpsec_gate_counts(gate: *mut Opaque, out: *mut Counts) -> i32;
+    pub fn snmpsec_gate_may_notify(
+        gate: *mut Opaque,
+        receiver: usize,
+        device: usize,
+        arcs: *const u32,
+        arcs_len: usize,
+        out: *mut u32,
+    ) -> i32;
+    pub fn snmpsec_forward_free(forward: *mut Opaque);
+    pub fn snmpsec_forward_new(
+        config: *const u8,
+        config_len: usize,
+        boots: u32,
+        started: u64,
+        out: *mut *mut Opaque,
+    ) -> i32;
+    pub fn snmpsec_forward_take_trap(
+        forward: *mut Opaque,
+        device: usize,
+        datagram: *const u8,
+        len: usize,
+        event: *mut u32,
+    ) -> i32;
+    pub fn snmpsec_forward_take_receiver(
+        forward: *mut Opaque,
+        now: u64,
+        receiver: usize,
+        datagram: *const u8,
+        len: usize,
+        event: *mut u32,
+    ) -> i32;
+    pub fn snmpsec_forward_next(
+        forward: *mut Opaque,
+        now: u64,
+        salt: u64,
+        ask_id: u32,
+        event: *mut u32,
+        why: *mut i32,
+    ) -> i32;
+    pub fn snmpsec_forward_due(forward: *mut Opaque, at: *mut u64) -> i32;
+    pub fn snmpsec_forward_message(
+        forward: *mut Opaque,
+        out: *mut u8,
+        len: usize,
+        written: *mut usize,
+    ) -> i32;
+    pub fn snmpsec_forward_numbers(forward: *mut Opaque, out: *mut ForwardInfo) -> i32;
     pub fn snmpsec_datagram_user(
         datagram: *const u8,
         datagram_len: usize,

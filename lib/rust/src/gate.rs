@@ -1,14 +1,16 @@
 //! A gateway from managers that speak SNMPv3 to devices that speak SNMPv2c, without its sockets.
 
-use crate::agent::{Counters, Counts};
+use crate::agent::{told, Counters, Counts};
 use crate::calls::{
     self, snmpsec_datagram_user, snmpsec_gate_client, snmpsec_gate_counters, snmpsec_gate_counts,
-    snmpsec_gate_due, snmpsec_gate_fault, snmpsec_gate_free, snmpsec_gate_message,
-    snmpsec_gate_new, snmpsec_gate_next, snmpsec_gate_numbers, snmpsec_gate_setting,
-    snmpsec_gate_take_client, snmpsec_gate_take_device, Opaque,
+    snmpsec_gate_due, snmpsec_gate_fault, snmpsec_gate_free, snmpsec_gate_may_notify,
+    snmpsec_gate_message, snmpsec_gate_new, snmpsec_gate_next, snmpsec_gate_numbers,
+    snmpsec_gate_read, snmpsec_gate_setting, snmpsec_gate_take_client, snmpsec_gate_take_device,
+    Opaque,
 };
 use crate::fault::{done, refusal_of, Error, Refusal};
 use crate::held::copied;
+use crate::words::Access;
 use std::ptr::{null_mut, NonNull};
 
 /// The numbers of events.
@@ -33,6 +35,11 @@ enum Text {
     GateContext = 2,
     GateAddress = 3,
     GateNote = 4,
+    GateTraps = 5,
+    GateReceiver = 6,
+    GateReceiverUser = 7,
+    GateReceiverLevel = 8,
+    GateReceiverKind = 9,
 }
 
 /// What becomes of a client's datagram that isn't refused.
@@ -48,24 +55,76 @@ pub enum ClientTaken {
     SetOfBefore,
 }
 
+/// The numbers of what doesn't fit.
+enum MisfitNumber {
+    MisfitTooFew = 1,
+    MisfitTooMany = 2,
+    MisfitOtherName = 3,
+    MisfitNotAfter = 4,
+    MisfitNoValue = 5,
+    MisfitAfterEnd = 6,
+}
+
+/// Why the bindings of a device's answer don't answer what it was asked: the first of these from the left. The number is that of the
+/// answer's binding, from 1.
+#[derive(Clone, Copy, Debug, PartialEq, Eq)]
+pub enum Misfit {
+    /// It has fewer bindings than were asked.
+    TooFew,
+    /// It has more bindings than were asked.
+    TooMany,
+    /// The binding has another name than the one asked.
+    OtherName(u64),
+    /// In a walk its name isn't after the one asked, or after the one before it.
+    NotAfter(u64),
+    /// It has no value, or one that isn't spelled as its tag has it.
+    NoValue(u64),
+    /// It has a value behind endOfMibView.
+    AfterEnd(u64),
+}
+
+/// The misfit of these numbers, or None.
+fn misfit_of(info: &calls::GateInfo) -> Option<Misfit> {
+    match info.misfit {
+        it if it == MisfitNumber::MisfitTooFew as u64 => Some(Misfit::TooFew),
+        it if it == MisfitNumber::MisfitTooMany as u64 => Some(Misfit::TooMany),
+        it if it == MisfitNumber::MisfitOtherName as u64 => Some(Misfit::OtherName(info.binding)),
+        it if it == MisfitNumber::MisfitNotAfter as u64 => Some(Misfit::NotAfter(info.binding)),
+        it if it == MisfitNumber::MisfitNoValue as u64 => Some(Misfit::NoValue(info.binding)),
+        it if it == MisfitNumber::MisfitAfterEnd as u64 => Some(Misfit::AfterEnd(info.binding)),
+        _ => None,
+    }
+}
+
 /// What becomes of a device's datagram.
 #[derive(Clone, Copy, Debug, PartialEq, Eq)]
 pub enum DeviceTaken {
-    /// It is the answer to what the device was asked for this request.
-    Answers(u64),
+    /// It is the answer to what the device was asked for this request; and why it doesn't fit, if it has no error and doesn't.
+    Answers {
+        request: u64,
+        misfit: Option<Misfit>,
+    },
     /// Nothing waits for it.
     NotWaitedFor,
     /// It is no Response of SNMPv2c.
     Unreadable,
 }
 
+/// error-status and error-index of a Response (RFC 3416, section 3).
+#[derive(Clone, Copy, Debug, PartialEq, Eq)]
+pub struct ResponseStatus {
+    pub status: u64,
+    pub index: u64,
+}
+
 /// What goes out for a request.
 #[derive(Clone, Debug, PartialEq, Eq)]
 pub enum Sent {
-    /// A datagram to a client, whose address is as it was given.
+    /// A datagram to a client, whose address is as it was given: the Response with this status, or a Report.
     ToClient {
         request: u64,
         client: Vec<u8>,
+        says: Option<ResponseStatus>,
         datagram: Vec<u8>,
     },
     /// A datagram to the device at this position.
@@ -88,6 +147,17 @@ pub struct GateDevice {
     pub address: String,
     /// What about it is probably a mistake.
     pub note: Option<String>,
+}
+
+/// Who is sent notifications, as the configuration says.
+#[derive(Clone, Debug, PartialEq, Eq)]
+pub struct GateReceiver {
+    pub address: String,
+    pub user: Vec<u8>,
+    /// The level at which notifications are sealed, as "authPriv".
+    pub level: String,
+    /// "trap" or "inform".
+    pub kind: String,
 }
 
 /// A gateway, which one thread uses at a time. Moments are milliseconds from one beginning. What has come is taken before `next` is called,
@@ -150,6 +220,17 @@ impl Gate {
         Ok(Gate { at })
     }
 
+    /// What a configuration says, for [`boots_path`](Gate::boots_path), [`listen`](Gate::listen) and [`devices`](Gate::devices). No password is
+    /// hashed, so it takes little time. This gateway has no users and no devices, and answers nobody.
+    ///
+    /// The errors are BadConfiguration and OutOfMemory.
+    pub fn read(config: &[u8]) -> Result<Gate, Error> {
+        let mut at = null_mut();
+        done(unsafe { snmpsec_gate_read(config.as_ptr(), config.len(), &mut at) })?;
+        let at = NonNull::new(at).ok_or(Error::Other(0))?;
+        Ok(Gate { at })
+    }
+
     fn at(&self) -> *mut Opaque {
         self.at.as_ptr()
     }
@@ -208,7 +289,13 @@ impl Gate {
             )
         })?;
         Ok(match event {
-            it if it == Event::GateAnswers as u32 => DeviceTaken::Answers(self.numbers()?.request),
+            it if it == Event::GateAnswers as u32 => {
+                let info = self.numbers()?;
+                DeviceTaken::Answers {
+                    request: info.request,
+                    misfit: misfit_of(&info),
+                }
+            }
             it if it == Event::GateNotWaitedFor as u32 => DeviceTaken::NotWaitedFor,
             it if it == Event::GateUnreadable as u32 => DeviceTaken::Unreadable,
             other => return Err(Error::Other(other as i32)),
@@ -232,6 +319,10 @@ impl Gate {
             it if it == Event::GateToClient as u32 => Sent::ToClient {
                 request,
                 client: self.client()?,
+                says: (info.is_report == 0).then_some(ResponseStatus {
+                    status: info.status,
+                    index: info.index,
+                }),
                 datagram: self.message()?,
             },
             it if it == Event::GateToDevice as u32 => Sent::ToDevice {
@@ -312,6 +403,43 @@ impl Gate {
             found.push(address);
         }
         Ok(found)
+    }
+
+    /// The addresses at which Traps of devices are taken, each with its port.
+    pub fn traps(&self) -> Result<Vec<String>, Error> {
+        let mut found = Vec::new();
+        while let Some(address) = self.words(Text::GateTraps, found.len())? {
+            found.push(address);
+        }
+        Ok(found)
+    }
+
+    /// Who is sent notifications, at the positions by which a [`crate::Forwarder`] names them.
+    pub fn receivers(&self) -> Result<Vec<GateReceiver>, Error> {
+        let mut found = Vec::new();
+        while let Some(address) = self.words(Text::GateReceiver, found.len())? {
+            let user = self.setting(Text::GateReceiverUser, found.len())?;
+            let level = self.words(Text::GateReceiverLevel, found.len())?;
+            let kind = self.words(Text::GateReceiverKind, found.len())?;
+            found.push(GateReceiver {
+                address,
+                user: user.unwrap_or_default(),
+                level: level.unwrap_or_default(),
+                kind: kind.unwrap_or_default(),
+            });
+        }
+        Ok(found)
+    }
+
+    /// Whether the receiver may be notified of the variable of this name in the device's context (RFC 3415, section 3).
+    pub fn may_notify(
+        &self,
+        receiver: usize,
+        device: usize,
+        arcs: &[u32],
+    ) -> Result<Access, Error> {
+        let (at, len) = (arcs.as_ptr(), arcs.len());
+        told(|out| unsafe { snmpsec_gate_may_notify(self.at(), receiver, device, at, len, out) })
     }
 
     /// The devices, at the positions by which the calls name them.

@@ -80,6 +80,8 @@
 //! # }
 //! ```
 //!
+//! A [`Forwarder`] sends Traps of these devices on to receivers that speak SNMPv3, as Traps or as Informs.
+//!
 //! A message that is answered later is kept outside of its agent, and any number may wait so:
 //!
 //! ```no_run
@@ -120,6 +122,7 @@ mod calls;
 mod config;
 mod device;
 mod fault;
+mod forward;
 mod gate;
 mod held;
 mod kept;
@@ -132,7 +135,11 @@ pub use bindings::{binding, bindings, value_is, Binding};
 pub use config::{config_fault, ConfigFault, ConfigReason, ConfigTable};
 pub use device::{Device, Known, Step};
 pub use fault::{Error, Refusal};
-pub use gate::{datagram_user, gate_fault, ClientTaken, DeviceTaken, Gate, GateDevice, Sent};
+pub use forward::{Forwarded, Forwarder, InformMessage, ReceiverTaken, TrapTaken};
+pub use gate::{
+    datagram_user, gate_fault, ClientTaken, DeviceTaken, Gate, GateDevice, GateReceiver, Misfit,
+    ResponseStatus, Sent,
+};
 pub use kept::{Kept, Response};
 pub use keys::{localise, mac, open, password_key, seal, wipe, Protocol};
 pub use manager::{Answer, Clock, Manager, Reply, Report, Request};

@@ -2,7 +2,7 @@
 
 use snmpsec::{
     binding, datagram_user, gate_fault, ClientTaken, DeviceTaken, Error, Gate, Level, Manager,
-    Part, Pdu, Refusal, Reply, Request, Sent, NO_CLOCKS,
+    Misfit, Part, Pdu, Refusal, Reply, Request, ResponseStatus, Sent, NO_CLOCKS,
 };
 
 const NOW: u64 = 1_000_000;
@@ -115,7 +115,10 @@ fn a_request_goes_to_its_device_and_back() {
         let answer = answer(&datagram, &list);
         assert_eq!(
             both.gate.take_device(NOW, 0, &answer),
-            Ok(DeviceTaken::Answers(number))
+            Ok(DeviceTaken::Answers {
+                request: number,
+                misfit: None
+            })
         );
         assert_eq!(
             both.gate.take_device(NOW, 0, &answer),
@@ -127,18 +130,54 @@ fn a_request_goes_to_its_device_and_back() {
         );
         for n in 1..3 {
             let Some(Sent::ToClient {
-                client, datagram, ..
+                client,
+                says,
+                datagram,
+                ..
             }) = both.next(10 * id + n)
             else {
                 panic!("each message is answered");
             };
             assert_eq!(client, b"client");
+            assert_eq!(
+                says,
+                Some(ResponseStatus {
+                    status: 0,
+                    index: 0
+                })
+            );
             both.manager.take(NOW / 1000, &datagram).unwrap();
             assert_eq!(both.manager.reply(), Ok(Reply::Response));
             assert_eq!(both.manager.part(Part::Bindings).unwrap(), list);
         }
         assert_eq!(both.next(10 * id + 3), None);
     }
+}
+
+#[test]
+fn an_answer_of_another_name_is_told() {
+    let mut both = both();
+    both.learn();
+    let message = both.ask(2, Level::AuthPriv);
+    both.gate.take_client(NOW, b"client", &message).unwrap();
+    let Some(Sent::ToDevice { datagram, .. }) = both.next(1) else {
+        panic!("the device is asked");
+    };
+    let other = binding(&SYS_NAME[..8], 4, b"router").unwrap();
+    let Ok(DeviceTaken::Answers { misfit, .. }) =
+        both.gate.take_device(NOW, 0, &answer(&datagram, &other))
+    else {
+        panic!("it is the answer");
+    };
+    assert_eq!(misfit, Some(Misfit::OtherName(1)));
+    let Some(Sent::ToClient { says, .. }) = both.next(2) else {
+        panic!("it is answered");
+    };
+    let gen_err = ResponseStatus {
+        status: 5,
+        index: 0,
+    };
+    assert_eq!(says, Some(gen_err));
 }
 
 #[test]
@@ -184,9 +223,10 @@ fn another_context_is_reported() {
     both.manager.request(NOW / 1000, &of, 2).unwrap();
     let message = both.manager.message().unwrap();
     both.gate.take_client(NOW, b"client", &message).unwrap();
-    let Some(Sent::ToClient { datagram, .. }) = both.next(1) else {
+    let Some(Sent::ToClient { datagram, says, .. }) = both.next(1) else {
         panic!("it is reported");
     };
+    assert_eq!(says, None);
     both.manager.take(NOW / 1000, &datagram).unwrap();
     assert_eq!(both.manager.report().unwrap().counter, Some(9));
     assert_eq!(both.gate.counts().unwrap().unknown_contexts, 1);
@@ -195,7 +235,11 @@ fn another_context_is_reported() {
 #[test]
 fn a_configuration_says_its_addresses_and_devices() {
     let text = format!("{GATE}{USER}[[device]]\ncontext = 'ups'\naddress = '[fe80::7%2]:161'\ncommunity = 'reads'\n");
-    let gate = Gate::new(text.as_bytes(), 1, 0).unwrap();
+    says_its_addresses_and_devices(&Gate::new(text.as_bytes(), 1, 0).unwrap());
+    says_its_addresses_and_devices(&Gate::read(text.as_bytes()).unwrap());
+}
+
+fn says_its_addresses_and_devices(gate: &Gate) {
     assert_eq!(gate.boots_path().unwrap(), "/var/lib/boots");
     assert_eq!(
         gate.listen().unwrap(),
@@ -218,6 +262,10 @@ fn a_refused_configuration_has_its_cause() {
     let text = GATE.replace("address", "adress");
     assert_eq!(
         Gate::new(text.as_bytes(), 1, 0).err(),
+        Some(Error::BadConfiguration)
+    );
+    assert_eq!(
+        Gate::read(text.as_bytes()).err(),
         Some(Error::BadConfiguration)
     );
     let fault = gate_fault(text.as_bytes()).unwrap().unwrap();

@@ -14,7 +14,7 @@
         manager.take(now, datagram)
         manager.reply()                         # Reply(is_response, report_of)
 
-snmpsec.gate has the gateway. Five functions keep nothing: they are for programs that spell messages themselves. A message that came is checked by take.
+snmpsec.gate has the gateway, and snmpsec.forward what sends Traps of its devices on. Five functions keep nothing: they are for programs that spell messages themselves. A message that came is checked by take.
 
     key = localise(AuthProtocol.SHA1, password_key(AuthProtocol.SHA1, b"maplesyrup"), engine)
     sealed = seal_text(key[:16], boots, time, salt, text)
@@ -46,9 +46,10 @@ from ._library import CALLS, Octets as _Slice
 
 __version__ = "0.1.0"
 __all__ = ["Access", "Agent", "Answered", "AuthProtocol", "BadArgument", "BadBindings", "BadClocks", "BadConfiguration", "Binding", "Clock", "ConfigFault",
-           "ConfigKey", "ConfigReason", "ConfigTable", "Counters", "Counts", "Device", "Error", "Gate", "GateDevice", "GateEvent", "GateSent", "Info", "Kept",
-           "Known", "LARGEST", "Level", "Manager", "NO_CLOCKS", "NotAsked", "NothingTaken", "Part", "Pdu", "Refusal", "Refused", "Reply", "Report", "Status",
-           "Step", "TooManyRequests", "Unhandled", "View", "binding", "bindings", "config_fault", "datagram_user", "gate_fault", "localise", "mac", "open_text",
+           "ConfigKey", "ConfigReason", "ConfigTable", "Counters", "Counts", "Device", "Error", "ForwardEvent", "Forwarded", "Forwarder", "Gate", "GateAnswer",
+           "GateDevice", "GateEvent", "GateReceiver", "GateSent", "Info", "InformMessage", "Kept", "Known", "LARGEST", "Level", "Manager", "Misfit", "NO_CLOCKS",
+           "NotAsked", "NothingTaken", "Part", "Pdu", "ReceiverTaken", "Refusal", "Refused", "Reply", "Report", "Status", "Step", "TooManyRequests", "TrapTaken",
+           "Unhandled", "View", "binding", "bindings", "config_fault", "datagram_user", "gate_fault", "localise", "mac", "open_text",
            "password_key", "seal_text", "status_of", "value_is", "version"]
 
 Buffer = Union[bytes, bytearray, memoryview]
@@ -571,12 +572,16 @@ class _Handled(_Object):
     """What an agent, a manager and a gateway have in common."""
 
     def __init__(self, config: Buffer, *arguments: Any):
+        super().__init__(self._handle_of("new", config, *arguments))
+
+    @classmethod
+    def _handle_of(cls, call: str, config: Buffer, *arguments: Any) -> ctypes.c_void_p:
         handle = ctypes.c_void_p()
         try:
-            _done(CALLS[f"{self._kind}_new"](*_octets(config), *arguments, ctypes.byref(handle)))
+            _done(CALLS[f"{cls._kind}_{call}"](*_octets(config), *arguments, ctypes.byref(handle)))
         except BadConfiguration as refused:
-            raise self._refused(config, str(refused)) from None
-        super().__init__(handle)
+            raise cls._refused(config, str(refused)) from None
+        return handle
 
     @staticmethod
     def _refused(config: Buffer, words: str) -> BadConfiguration:
@@ -909,4 +914,5 @@ class Manager(_Held):
         return Clock(out.boots, out.time)
 
 
-from .gate import Gate, GateDevice, GateEvent, GateSent, datagram_user, gate_fault  # noqa: E402  (it needs what stands above)
+from .gate import Gate, GateAnswer, GateDevice, GateEvent, GateReceiver, GateSent, Misfit, datagram_user, gate_fault  # noqa: E402  (it needs what stands above)
+from .forward import ForwardEvent, Forwarded, Forwarder, InformMessage, ReceiverTaken, TrapTaken  # noqa: E402

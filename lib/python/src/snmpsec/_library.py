@@ -74,7 +74,11 @@ class ConfigPlace(ctypes.Structure):
 
 
 class GateInfo(ctypes.Structure):
-    _fields_ = [(name, c_uint64) for name in ("request", "device", "waiting")]
+    _fields_ = [(name, c_uint64) for name in ("request", "device", "waiting", "status", "index", "is_report", "misfit", "binding")]
+
+
+class ForwardInfo(ctypes.Structure):
+    _fields_ = [(name, c_uint64) for name in ("notification", "receiver", "waiting", "inform", "informs", "message", "counter")]
 
 
 class Notice(ctypes.Structure):
@@ -157,6 +161,7 @@ SIGNATURES = {
     "gate_free": (None, [c_void_p]),
     "gate_fault": (c_int, _slice + _out),
     "gate_new": (c_int, _slice + [c_uint32, c_uint64, POINTER(c_void_p)]),
+    "gate_read": (c_int, _slice + [POINTER(c_void_p)]),
     "gate_setting": (c_int, [c_void_p, c_uint, c_size_t] + _out),
     "gate_take_client": (c_int, [c_void_p, c_uint64] + _slice * 2 + [POINTER(Enumeration)]),
     "gate_take_device": (c_int, [c_void_p, c_uint64, c_size_t] + _slice + [POINTER(Enumeration)]),
@@ -167,7 +172,16 @@ SIGNATURES = {
     "gate_numbers": (c_int, [c_void_p, POINTER(GateInfo)]),
     "gate_counters": (c_int, [c_void_p, POINTER(Counters)]),
     "gate_counts": (c_int, [c_void_p, POINTER(Counts)]),
+    "gate_may_notify": (c_int, [c_void_p, c_size_t, c_size_t] + _arcs + [POINTER(Enumeration)]),
     "datagram_user": (c_int, _slice + _out),
+    "forward_free": (None, [c_void_p]),
+    "forward_new": (c_int, _slice + [c_uint32, c_uint64, POINTER(c_void_p)]),
+    "forward_take_trap": (c_int, [c_void_p, c_size_t] + _slice + [POINTER(Enumeration)]),
+    "forward_take_receiver": (c_int, [c_void_p, c_uint64, c_size_t] + _slice + [POINTER(Enumeration)]),
+    "forward_next": (c_int, [c_void_p, c_uint64, c_uint64, c_uint32, POINTER(Enumeration), POINTER(c_int)]),
+    "forward_due": (c_int, [c_void_p, POINTER(c_uint64)]),
+    "forward_message": (c_int, [c_void_p] + _out),
+    "forward_numbers": (c_int, [c_void_p, POINTER(ForwardInfo)]),
 } | {f"{kind}_{name}": signature for kind in ("agent", "manager") for name, signature in _kept.items()}
 
 # CDLL gives the interpreter's lock back while a call runs, so threads with handles of their own run side by side.

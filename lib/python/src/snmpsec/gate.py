@@ -13,12 +13,13 @@ from __future__ import annotations
 
 import ctypes
 from enum import IntEnum
-from typing import List, NamedTuple, Optional, Union
+from typing import List, NamedTuple, Optional, Sequence, Union
 
-from . import (BadConfiguration, Buffer, NothingTaken, Path, Refusal, Refused, _copied, _Counting, _done, _library, _octets, _ranged, _refusal, wiped)
+from . import (Access, BadConfiguration, Buffer, NothingTaken, Path, Refusal, Refused, _arcs, _copied, _Counting, _done, _library, _Object, _octets,
+               _ranged, _refusal, wiped)
 from ._library import CALLS
 
-__all__ = ["Gate", "GateDevice", "GateEvent", "GateSent", "datagram_user", "gate_fault"]
+__all__ = ["Gate", "GateAnswer", "GateDevice", "GateEvent", "GateReceiver", "GateSent", "Misfit", "datagram_user", "gate_fault"]
 
 _BAD_CONFIGURATION = -6
 _LINES = 4096  # octets
@@ -43,9 +44,32 @@ class GateEvent(IntEnum):
     UNANSWERED = 30
 
 
+class Misfit(IntEnum):
+    """Why the bindings of a device's answer don't answer what it was asked: the first of these from the left."""
+
+    #: It has fewer bindings than were asked, or more.
+    TOO_FEW = 1
+    TOO_MANY = 2
+    #: A binding has another name than the one asked; in a walk its name isn't after the one asked, or after the one before it.
+    OTHER_NAME = 3
+    NOT_AFTER = 4
+    #: It has no value, or one that isn't spelled as its tag has it; or a value behind endOfMibView.
+    NO_VALUE = 5
+    AFTER_END = 6
+
+
+class GateAnswer(NamedTuple):
+    """A device's answer to what it was asked for a request: why it doesn't fit, if it has no error and doesn't, and the number of its binding from 1, or
+    None."""
+
+    request: int
+    misfit: Optional[Misfit]
+    binding: Optional[int]
+
+
 class GateSent(NamedTuple):
-    """What `next` did, for a request. TO_CLIENT has the client and the datagram, TO_DEVICE the device's position and the datagram, GIVEN_UP the device,
-    and UNANSWERED why, if there is a refusal."""
+    """What `next` did, for a request. TO_CLIENT has the client and the datagram, and error-status and error-index of the Response, or None where it is a
+    Report; TO_DEVICE the device's position and the datagram, GIVEN_UP the device, and UNANSWERED why, if there is a refusal."""
 
     event: GateEvent
     request: int
@@ -53,6 +77,8 @@ class GateSent(NamedTuple):
     client: Optional[bytes]
     datagram: Optional[bytes]
     why: Optional[Refusal]
+    status: Optional[int]
+    index: Optional[int]
 
 
 class GateDevice(NamedTuple):
@@ -63,6 +89,15 @@ class GateDevice(NamedTuple):
     note: Optional[str]
 
 
+class GateReceiver(NamedTuple):
+    """Who is sent notifications, as the configuration says: an address, a user, a level in words, and "trap" or "inform"."""
+
+    address: str
+    user: bytes
+    level: str
+    kind: str
+
+
 class _Text(IntEnum):
     """What a configuration says."""
 
@@ -71,6 +106,11 @@ class _Text(IntEnum):
     CONTEXT = 2
     ADDRESS = 3
     NOTE = 4
+    TRAPS = 5
+    RECEIVER = 6
+    RECEIVER_USER = 7
+    RECEIVER_LEVEL = 8
+    RECEIVER_KIND = 9
 
 
 def gate_fault(config: Buffer) -> Optional[str]:
@@ -107,6 +147,14 @@ class Gate(_Counting):
     def from_file(cls, path: Path, boots: int, started: int) -> "Gate":
         return wiped(path, lambda config: cls(config, boots, started))
 
+    @classmethod
+    def read(cls, config: Buffer) -> "Gate":
+        """What a configuration says, for boots_path, listen and devices. No password is hashed, so it takes little time. This gateway has no users and no
+        devices, and answers nobody."""
+        gate = cls.__new__(cls)
+        _Object.__init__(gate, cls._handle_of("read", config))
+        return gate
+
     @staticmethod
     def _refused(config: Buffer, words: str) -> BadConfiguration:
         return BadConfiguration(gate_fault(config) or words)
@@ -124,6 +172,11 @@ class Gate(_Counting):
         _done(self._call("take_device", _ranged(now, 64), _ranged(device, 64), *_octets(datagram), ctypes.byref(event)))
         return GateEvent(event.value)
 
+    def answer(self) -> GateAnswer:
+        """What the answer is that the last call took, where that was ANSWERS."""
+        info = self._numbers()
+        return GateAnswer(info.request, Misfit(info.misfit) if info.misfit else None, info.binding or None)
+
     def next(self, now: int, salt: int, ask_id: int) -> Optional[GateSent]:
         """Does the first thing that is due, or None. It is called until then, each time with another salt and ask_id."""
         number, why = _library.Enumeration(), ctypes.c_int()
@@ -133,7 +186,8 @@ class Gate(_Counting):
         event, info = GateEvent(number.value), self._numbers()
         device = info.device if event in (GateEvent.TO_DEVICE, GateEvent.GIVEN_UP) else None
         client = _copied(self._call, "client") if event is GateEvent.TO_CLIENT else None
-        return GateSent(event, info.request, device, client, self.message(), Refusal(why.value) if why.value else None)
+        status, index = (info.status, info.index) if client is not None and not info.is_report else (None, None)
+        return GateSent(event, info.request, device, client, self.message(), Refusal(why.value) if why.value else None, status, index)
 
     def due(self) -> Optional[int]:
         """The moment from which on `next` has something to do by time alone, or None."""
@@ -163,12 +217,33 @@ class Gate(_Counting):
         """The path of the boots file."""
         return (self._setting(_Text.BOOTS, 0) or b"").decode()
 
-    def listen(self) -> List[str]:
-        """The addresses at which it takes requests, each with its port."""
+    def _addresses(self, text: _Text) -> List[str]:
         found: List[str] = []
-        while (address := self._setting(_Text.LISTEN, len(found))) is not None:
+        while (address := self._setting(text, len(found))) is not None:
             found.append(address.decode())
         return found
+
+    def listen(self) -> List[str]:
+        """The addresses at which it takes requests, each with its port."""
+        return self._addresses(_Text.LISTEN)
+
+    def traps(self) -> List[str]:
+        """The addresses at which Traps of devices are taken, each with its port."""
+        return self._addresses(_Text.TRAPS)
+
+    def receivers(self) -> List[GateReceiver]:
+        """Who is sent notifications, at the positions by which a Forwarder names them."""
+        found: List[GateReceiver] = []
+        for number, address in enumerate(self._addresses(_Text.RECEIVER)):
+            user, level, kind = (self._setting(text, number) or b"" for text in (_Text.RECEIVER_USER, _Text.RECEIVER_LEVEL, _Text.RECEIVER_KIND))
+            found.append(GateReceiver(address, user, level.decode(), kind.decode()))
+        return found
+
+    def may_notify(self, receiver: int, device: int, name: Sequence[int]) -> Access:
+        """Whether the receiver may be notified of the variable of this name in the device's context (RFC 3415, section 3)."""
+        answer = _library.Enumeration()
+        _done(self._call("may_notify", _ranged(receiver, 64), _ranged(device, 64), *_arcs(name), ctypes.byref(answer)))
+        return Access(answer.value)
 
     def devices(self) -> List[GateDevice]:
         """The devices, at the positions by which the calls name them."""
