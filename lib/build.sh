@@ -8,7 +8,7 @@
 set -e
 here=$(cd "$(dirname "$0")" && pwd)
 out=${OUT:-$here/out}
-archive=$here/../crates/snmp_c/out/libsnmp_c.a
+archive=${SNMPSEC_ARCHIVE:-$here/../crates/snmp_c/out/libsnmp_c.a}
 mkdir -p "$out"
 [ -n "$NO_LIBRARY" ] || (cd "$here/.." && tools/build ${OVER_CI:+--over-ci} snmp_c)
 cc="${CC:-cc} -std=c11 -O2 -Wall -Wextra -Werror -I$here/include"

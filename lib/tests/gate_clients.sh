@@ -69,7 +69,7 @@ else
     : > "$own/err"
     "$OUT/snmpsec-gate" "$own/gate.toml" > "$own/out" 2>> "$own/err" & gate=$!
     pids+=("$gate")
-    for _ in {1..50}; do [ -s "$own/boots" ] && break; sleep 0.1; done
+    for _ in {1..200}; do [ -s "$own/boots" ] && break; sleep 0.1; done
     test_other_clients
     test_64_clients
     test_junk_beside

@@ -50,7 +50,7 @@ test_full_log() {
     tells "and the file is read anew" 'gate.toml is read anew$'
     check "with one more boot" 2 "$(cat "$full/boots")"
     kill -USR1 "$gate"
-    for _ in {1..50}; do [ -s "$full/counts" ] && break; sleep 0.1; done
+    for _ in {1..200}; do [ -s "$full/counts" ] && break; sleep 0.1; done
     check "the counts say how many datagrams aren't logged" 1 $(($(sed -n 's/^snmpsec_gate_unlogged_total //p' "$full/counts") > 0))
 }
 

@@ -44,15 +44,15 @@ test_informs_acknowledged() {
     sleep 1 # (at most 10 lines of a kind are written in a second)
     notifies 127.0.0.2 other 1 $link_down
     in_file "another device: its context" "$traps/got" "user sha256-priv, context pump, "
-    for _ in {1..50}; do [ "$(lines_of 'device pump .*acknowledged by' "$traps/err")" = 7 ] && break; sleep 0.1; done
-    check "each of seven acknowledges it" 7 "$(lines_of 'device pump .*acknowledged by' "$traps/err")"
+    for _ in {1..200}; do [ "$(lines_of 'device pump .*: acknowledged by' "$traps/err")" = 7 ] && break; sleep 0.1; done
+    check "each of seven acknowledges it" 7 "$(lines_of 'device pump .*: acknowledged by' "$traps/err")"
     check "and gets it once" 7 "$(lines_of 'context pump' "$traps/got")"
 }
 
 test_informs_counted() {
     rm -f "$traps/counts"
     kill -USR1 "$gate"
-    for _ in {1..50}; do [ -s "$traps/counts" ] && break; sleep 0.1; done
+    for _ in {1..200}; do [ -s "$traps/counts" ] && break; sleep 0.1; done
     local sample
     for sample in 'informs_total{event="begins"} 13' 'informs_total{event="acknowledged"} 13' 'informs_total{event="given_up"} 0' \
         'informs_sent_total{message="discovery"} 13' 'informs_sent_total{message="inform"} 13' informs_waiting\ 0; do
@@ -60,24 +60,31 @@ test_informs_counted() {
     done
 }
 
-# A receiver that is stopped for a while, or begins anew, gets each notification.
-test_informs_later() {
+# A receiver that is stopped for a while gets each notification once.
+test_informs_stopped() {
     begin_lines
     kill -STOP "$snmptrapd"
     notifies 127.0.0.2 other 91 $link_down
     sleep 5.5
     kill -CONT "$snmptrapd"
-    in_file "a receiver that was stopped" "$traps/err" "acknowledged by user sha256-priv"
+    in_file "a receiver that was stopped" "$traps/err" ": acknowledged by user sha256-priv"
+    for _ in {1..100}; do [ "$(lines_of ': acknowledged by' "$traps/err")" = 7 ] && break; sleep 0.1; done
     sleep 0.5
-    check "acknowledges once" 7 "$(lines_of 'acknowledged by' "$traps/err")"
-    begin_lines
-    kill "$snmptrapd"
-    wait "$snmptrapd" 2> /dev/null
-    notifies 127.0.0.2 other 92 $link_down
-    in_file "a receiver that is away" "$traps/counts" .
-    begin_snmptrapd
-    in_file "and begins anew gets what was sent before" "$traps/got" "user sha256-priv, context pump, .*Timeticks: (92) "
-    in_file "and acknowledges it" "$traps/err" "acknowledged by user sha256-priv"
+    check "acknowledges once" 7 "$(lines_of ': acknowledged by' "$traps/err")"
+}
+
+# A receiver that is away gets what was sent before, if it is there for the last of three tries. A machine at its limit may begin it too late.
+test_informs_away() {
+    for _ in {1..3}; do
+        kill "$snmptrapd"
+        wait "$snmptrapd" 2> /dev/null
+        begin_lines
+        notifies 127.0.0.2 other 92 $link_down
+        begin_snmptrapd
+        comes "$traps/err" ": acknowledged by user sha256-priv" && break
+    done
+    in_file "a receiver that begins anew gets what was sent before" "$traps/got" "user sha256-priv, context pump, .*Timeticks: (92) "
+    in_file "and acknowledges it" "$traps/err" ": acknowledged by user sha256-priv"
 }
 
 # What comes late, twice, forged or from another address ends no Inform, and the true answer does.
@@ -87,9 +94,9 @@ test_informs_troubled() {
         begin_lines
         echo "$word" > "$traps/word"
         notifies 127.0.0.2 other 93 $link_down
-        in_file "answers $word: it is acknowledged" "$traps/err" "acknowledged by user sha256-auth at 127.0.0.1:$proxy_at"
+        in_file "answers $word: it is acknowledged" "$traps/err" ": acknowledged by user sha256-auth at 127.0.0.1:$proxy_at"
         sleep 0.3
-        check "answers $word: once" 1 "$(lines_of 'acknowledged by user sha256-auth' "$traps/err")"
+        check "answers $word: once" 1 "$(lines_of ': acknowledged by user sha256-auth' "$traps/err")"
         check "answers $word: the receiver got it once" 1 "$(lines_of 'user sha256-auth, context pump' "$traps/got")"
     done
     has "forged answers are told" "WRONG_DIGEST from a receiver, user sha256-auth at 127.0.0.1:$proxy_at (not authenticated)" "$(cat "$traps/err")"
@@ -110,7 +117,7 @@ test_informs_to_pysnmp() {
     for kind in inform trap; do
         begin_informs "sha256-priv authPriv $pysnmp_at $kind"
         notifies 127.0.0.2 other 95 $link_down
-        [ $kind = trap ] || in_file "pysnmp acknowledges an Inform" "$traps/err" "acknowledged by user sha256-priv at 127.0.0.1:$pysnmp_at\$"
+        [ $kind = trap ] || in_file "pysnmp acknowledges an Inform" "$traps/err" ": acknowledged by user sha256-priv at 127.0.0.1:$pysnmp_at\$"
         in_file "pysnmp gets it" "$traps/pysnmp" "^pump .*1.3.6.1.6.3.1.1.4.1.0=$link_down"
         : > "$traps/pysnmp"
         end_informs
@@ -126,7 +133,7 @@ test_informs_to_listen() {
     for kind in inform trap; do
         begin_informs "sha256-priv authPriv $listen_at $kind"
         notifies 127.0.0.2 other 96 $link_down
-        [ $kind = trap ] || in_file "snmpsec-listen acknowledges an Inform" "$traps/err" "acknowledged by user sha256-priv at 127.0.0.1:$listen_at\$"
+        [ $kind = trap ] || in_file "snmpsec-listen acknowledges an Inform" "$traps/err" ": acknowledged by user sha256-priv at 127.0.0.1:$listen_at\$"
         in_file "snmpsec-listen prints it" "$traps/listened" "^$kind from 127.0.0.1 port [0-9]* user sha256-priv engine $trap_engine\$"
         end_informs
     done
@@ -143,7 +150,8 @@ else
     test_informs_checked
     test_informs_acknowledged
     test_informs_counted
-    test_informs_later
+    test_informs_stopped
+    test_informs_away
     end_informs
     if command -v python3 > /dev/null; then
         echo nothing > "$traps/word"

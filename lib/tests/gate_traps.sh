@@ -109,16 +109,6 @@ until_got() {
     done
 }
 
-# in_file NAME FILE PATTERN: it is there within 20 seconds
-in_file() {
-    local tries
-    for tries in {1..200}; do
-        if grep -q -- "$3" "$2"; then passed=$((passed + 1)); return; fi
-        sleep 0.1
-    done
-    check "$1" "$3" "$(tail -5 "$2")"
-}
-
 begin_lines() { : > "$traps/err"; : > "$traps/got"; }
 
 test_traps_checked() {
@@ -183,7 +173,7 @@ test_traps_of_snmpd() {
 test_traps_counted() {
     rm -f "$traps/counts"
     kill -USR1 "$gate"
-    for _ in {1..50}; do [ -s "$traps/counts" ] && break; sleep 0.1; done
+    for _ in {1..200}; do [ -s "$traps/counts" ] && break; sleep 0.1; done
     local sample
     for sample in 'event="waits"} 2' 'event="to_receiver"} 13' 'event="unsent"} 0' 'event="other_community"} 1' 'event="for_nobody"} 1' \
         'event="unreadable"} 1' 'event="not_trap"} 1' 'event="of_nobody"} 1'; do

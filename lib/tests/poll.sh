@@ -37,7 +37,6 @@ test_snmpd_polled() {
 
 # The first poller knows snmpd before its restart, and the example agent; the second knows snmpd after it.
 test_merged() {
-    local program=$here/../crates/snmpsec/out/snmpsec
     if [ ! -x "$program" ]; then echo "skipped: the program isn't built, which ./prove does"; return; fi
     "$program" merge-clocks "$work/first" "$work/second" > "$work/merged"
     check "two pollers' clocks merged: the later of each engine" "$(head -2 "$work/first"; tail -1 "$work/second")" "$(cat "$work/merged")"

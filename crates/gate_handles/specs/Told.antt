@@ -4,7 +4,7 @@
 -- `ReadsSetting`, `IsSetting`: a text that the configuration says. `MayNotify`: whether a receiver may be notified of a
 -- variable. `numbers_of`: whom the last call was about. `CountsOf`: a counter of the agent. `TellsGate`: why a text is
 -- refused as a configuration. `CopiesUser`: the user that a datagram names.
-use Rattle.std.specs.Prelude.{◌≡◌, ◌<◌, ◌≤◌, ◌⊎◌, ⊤, ℕ, List, []}
+use Rattle.std.specs.Prelude.{◌≡◌, ◌<◌, ◌≤◌, ◌⊎◌, ⊤, ℕ, List}
 use Rattle.std.specs.Prelude.{◌∷◌, ◌++◌, length, drop, codes, string_bytes, slice_get, if◌then◌else◌, ◌==◌}
 use Rattle.std.specs.Prelude.{Option, Some, None, option_map, MatchOption, Result, Ok, Err}
 use Rattle.std.specs.Net.Text.{socket_text}

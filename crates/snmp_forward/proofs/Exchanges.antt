@@ -11,8 +11,8 @@ use Rattle.snmp_requests.specs.declared.device_request.NextStep.{NextStep}
 use Rattle.snmp_requests.specs.declared.device_request.NextStep.TheVariants.{Wait, Send, Answered, Refused}
 use Rattle.snmp_requests.specs.DeviceRequests.{Hears, ended, to_engine}
 use Rattle.snmp_requests.specs.DeviceRequestRuns.{HearStep, IsHeardRun, is_sending}
-use Rattle.snmp_forward.specs.Exchange.{GoesOn, HearsAnswer, IsCounted, IsSent, MayBeTried}
-use Rattle.snmp_forward.specs.ExchangeRuns.{AreWaits, ExchangeStep, IsExchangeRun, IsWait, Steps, hears, heard_in, is_trying, sends, times_tried}
+use Rattle.snmp_forward.specs.Exchange.{HearsAnswer, IsCounted, IsSent, MayBeTried}
+use Rattle.snmp_forward.specs.ExchangeRuns.{AreWaits, ExchangeStep, IsExchangeRun, Steps, hears, heard_in, is_trying, sends, times_tried}
 use Rattle.snmp_forward.specs.declared.exchange.InformExchange.{InformExchange}
 use Rattle.snmp_forward.specs.declared.exchange.InformLimits.{InformLimits}
 

@@ -1,8 +1,8 @@
 -- What an accepted message is to the Informs that wait.
-use Rattle.std.specs.Prelude.{◌≡◌, ◌≢◌, ◌/◌, ℕ, Bool, List, ◌∷◌, All, Option, Some, None, Result, Ok, Err}
+use Rattle.std.specs.Prelude.{◌≡◌, ◌≢◌, ◌/◌, ℕ, Bool, List, All, Option, Some, None, Ok, Err}
 use Rattle.std.specs.FinMap as map
 use Rattle.std.proofs.Common.{refl, sym, ap, subst, ◌∙◌}
-use Rattle.std.proofs.lemmas.Option.{same_Some, slice_get_within}
+use Rattle.std.proofs.lemmas.Option.{same_Some}
 use Rattle.snmp_message.specs.Numbers.{in_table}
 use Rattle.snmp_message.specs.Scoped.{Contexts, ScopedFront}
 use Rattle.snmp_message.specs.declared.refusal.Refusal.{Refusal}
@@ -14,14 +14,14 @@ use Rattle.usm_users.specs.User.{User}
 use Rattle.snmp_manager.specs.Takes.{Takes}
 use Rattle.snmp_manager.specs.Views.{Held}
 use Rattle.snmp_requests.specs.Answering.{IsHeardOf, TellsAnswered, left_after}
-use Rattle.snmp_requests.specs.Outstanding.{Outstanding, message_id_of, without}
+use Rattle.snmp_requests.specs.Outstanding.{Outstanding, message_id_of}
 use Rattle.snmp_requests.specs.declared.answered.AnsweredRequest.{AnsweredRequest}
 use Rattle.snmp_requests.specs.declared.device_request.Heard.{Heard}
 use Rattle.snmp_requests.specs.declared.device_request.Heard.TheVariants.{Response, Report}
 use Rattle.snmp_requests.specs.declared.device_request.NextStep.{NextStep}
 use Rattle.snmp_requests.specs.declared.outstanding.OutstandingRequest.{OutstandingRequest}
 use Rattle.snmp_forward.specs.InformHistory.{Accepted, InformHappening, InformSetting, IsAccepted, IsInformLawful, answers, asked_with}
-use Rattle.snmp_forward.specs.InformStanding.{AnswerHappens, AnswersGiven, HeardHappens, HearsOf, InformHappens, InformsStand, IsAnswered, IsAt, IsForNone, IsSameElse, IsUnasked, KeepsRequests, ReceiverHappens, accepted_at, holds, setting_of}
+use Rattle.snmp_forward.specs.InformStanding.{AnswerHappens, AnswersGiven, HeardHappens, HearsOf, InformsStand, IsAnswered, IsAt, IsForNone, IsUnasked, KeepsRequests, ReceiverHappens, accepted_at, holds}
 use Rattle.snmp_manager.specs.declared.pending.Pending.{Pending}
 use Rattle.snmp_forward.specs.WaitingInforms.{IsAsked}
 use Rattle.snmp_forward.specs.declared.informs.Informs.{Informs}

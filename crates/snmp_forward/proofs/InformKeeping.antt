@@ -16,10 +16,9 @@ use Rattle.snmp_requests.proofs.Maps.{at_insert, at_remove, insert_here, remove_
 use Rattle.snmp_manager.specs.declared.pending.Pending.{Pending}
 use Rattle.snmp_forward.specs.ExchangeRuns.{ExchangeStep, IsExchangeRun}
 use Rattle.snmp_forward.specs.InformHistory.{InformHappening, InformKnown, StandsAt, begins, inform_of, known_after, known_of, nothing_known}
-use Rattle.snmp_forward.specs.InformStanding.{HasRequest, InformStands, InformsStand, IsAt, IsKept, IsSameElse, IsStill, IsWaitedFor, KeepsOthers, KeepsRequests}
+use Rattle.snmp_forward.specs.InformStanding.{HasRequest, InformStands, InformsStand, IsAt, IsKept, IsSameElse, IsStill, KeepsOthers, KeepsRequests}
 use Rattle.snmp_forward.specs.WaitingInforms.{IsNewInform}
 use Rattle.snmp_requests.specs.DeviceRequests.{Begins}
-use Rattle.snmp_requests.specs.declared.device_request.SentMessage.{SentMessage}
 use Rattle.snmp_requests.specs.declared.device_request.SentMessage.TheVariants.{Discovery}
 use Rattle.snmp_forward.specs.declared.exchange.InformExchange.{InformExchange}
 use Rattle.snmp_forward.specs.declared.exchange.InformLimits.{InformLimits}

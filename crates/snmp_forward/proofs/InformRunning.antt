@@ -1,24 +1,19 @@
 -- Runs of Informs, and what is true of one of them.
-use Rattle.std.specs.Prelude.{◌≡◌, ◌≢◌, ◌<◌, ◌≤◌, ◌+◌, ◌-◌, ◌/◌, ◌^◌, ℕ, Bool, true, false, cond, nat_eq, List, [], ◌∷◌, ◌++◌, All, Some, None, length, min}
+use Rattle.std.specs.Prelude.{◌≡◌, ◌<◌, ◌≤◌, ◌+◌, ◌-◌, ◌^◌, ℕ, Bool, true, false, cond, List, [], ◌∷◌, ◌++◌, All, Some, min}
 use Rattle.std.proofs.Common.{refl, sym, ap, subst, ◌∙◌, inl, inr, ◌⊎◌, arith}
 use Rattle.std.proofs.lemmas.Bool.Decides.{eqb_tells}
 use Rattle.std.proofs.lemmas.List.Elements.{All-head, All-tail}
-use Rattle.std.proofs.lemmas.Option.{same_Some}
-use Rattle.usm_users.specs.User.{User}
 use Rattle.snmp_requests.specs.DeviceRequestRuns.{HearStep}
 use Rattle.snmp_requests.specs.DeviceRequests.{Hears}
-use Rattle.snmp_requests.specs.Outstanding.{Outstanding}
-use Rattle.snmp_requests.specs.declared.device_request.DeviceRequest.{DeviceRequest}
 use Rattle.snmp_requests.specs.declared.device_request.Heard.{Heard}
 use Rattle.snmp_requests.specs.declared.device_request.NextStep.{NextStep}
 use Rattle.snmp_requests.specs.declared.device_request.NextStep.TheVariants.{Wait, Send, Answered, Refused}
 use Rattle.snmp_requests.specs.declared.device_request.SentMessage.{SentMessage}
 use Rattle.snmp_requests.specs.declared.device_request.SentMessage.TheVariants.{Request}
-use Rattle.snmp_forward.specs.Exchange.{HearsAnswer}
 use Rattle.snmp_forward.specs.ExchangeRuns.{ExchangeStep, IsExchangeRun, hears, sends, times_tried}
-use Rattle.snmp_forward.specs.InformHistory.{Accepted, AreInformsLawful, Asked, InformEnd, InformHappening, InformKnown, InformSetting, IsAnswer, IsHeardIn, IsInformLawful, answers, asked_with, asks, begins, ends, inform_of, is_end, known_after, known_of, refused}
-use Rattle.snmp_forward.specs.InformRuns.{answered_by, InformEvent, IsInformHistoryOf, IsInformRun, IsOwnResponse, acknowledged, answered_in, asked_in, begun_in, comes, finds_no_memory, goes_out, informs_of, is_ended, receives, times_ended, went_out}
-use Rattle.snmp_forward.specs.InformStanding.{AreAsBefore, InformHappens, InformSendHappens, InformsStand, InformsStay, IsGoingOn, KeepsRequests, ReceiverHappens, accepted_at, setting_of}
+use Rattle.snmp_forward.specs.InformHistory.{Accepted, AreInformsLawful, InformHappening, InformKnown, InformSetting, IsAnswer, IsHeardIn, IsInformLawful, answers, asked_with, asks, begins, ends, inform_of, is_end, known_after, known_of, refused}
+use Rattle.snmp_forward.specs.InformRuns.{answered_by, InformEvent, IsInformHistoryOf, IsInformRun, IsOwnResponse, acknowledged, answered_in, asked_in, begun_in, comes, finds_no_memory, goes_out, informs_of, receives, times_ended, went_out}
+use Rattle.snmp_forward.specs.InformStanding.{InformHappens, InformSendHappens, InformsStand, InformsStay, IsGoingOn, KeepsRequests, ReceiverHappens, accepted_at, setting_of}
 use Rattle.snmp_forward.specs.declared.exchange.InformExchange.{InformExchange}
 use Rattle.snmp_forward.specs.declared.inform.Inform.{Inform}
 use Rattle.snmp_forward.specs.declared.informs.InformSent.{InformSent}

@@ -1,5 +1,5 @@
 -- What happens to an Inform that waits.
-use Rattle.std.specs.Prelude.{◌≡◌, ◌≢◌, ◌<◌, ◌≤◌, ◌+◌, ℕ, Bool, true, false, List, ◌∷◌, Contains, Option, Some, None, IsSome, slice_set, remove, ◌/◌}
+use Rattle.std.specs.Prelude.{◌≡◌, ◌≢◌, ◌<◌, ◌≤◌, ℕ, Bool, true, false, List, ◌∷◌, Contains, Option, Some, None, IsSome, slice_set, remove, ◌/◌}
 use Rattle.std.specs.FinMap as map
 use Rattle.std.specs.Global.{Vec}
 use Rattle.std.specs.List.{HoldsAt}
@@ -11,7 +11,6 @@ use Rattle.snmp_message.specs.declared.refusal.Refusal.{Refusal}
 use Rattle.snmp_manager.specs.declared.pending.Pending.{Pending}
 use Rattle.snmp_manager.specs.Views.{Held}
 use Rattle.snmp_requests.specs.DeviceRequestRuns.{HearStep}
-use Rattle.snmp_requests.specs.DeviceRequests.{Hears}
 use Rattle.snmp_requests.specs.Outstanding.{Outstanding, message_id_of}
 use Rattle.snmp_requests.specs.declared.device_request.DeviceRequest.{DeviceRequest}
 use Rattle.snmp_requests.specs.declared.device_request.Heard.{Heard}
@@ -22,13 +21,12 @@ use Rattle.snmp_requests.specs.declared.device_request.SentMessage.TheVariants.{
 use Rattle.snmp_requests.specs.declared.outstanding.OutstandingRequest.{OutstandingRequest}
 use Rattle.snmp_forward.specs.Exchange.{MayBeTried}
 use Rattle.snmp_forward.specs.ExchangeRuns.{ExchangeStep, IsExchangeRun}
-use Rattle.snmp_forward.specs.InformHistory.{Accepted, Asked, InformEnd, InformHappening, InformKnown, IsAccepted, IsAnswer, IsHeardIn, IsReason, StandsAt, answers, asked_with, asks, begins, ends, inform_of, is_end, known_after, known_of, message_of, no_token, refused, tried}
+use Rattle.snmp_forward.specs.InformHistory.{Accepted, InformEnd, InformHappening, InformKnown, IsAccepted, IsAnswer, IsHeardIn, IsReason, StandsAt, answers, asked_with, asks, begins, ends, is_end, known_after, known_of, message_of, refused, tried}
 use Rattle.snmp_forward.specs.InformStanding.{AnswersGiven, GivesUpOne, InformHappens, InformSendHappens, InformStands, InformsStand, IsAnswered, IsAt, IsGivenUp, IsOwn, IsRemoved, IsSameElse, IsWaitedFor, KeepsRequests, WaitsForAnswer, setting_of}
-use Rattle.snmp_forward.specs.WaitingInforms.{HearsInform, IsAddressed, IsSentInform, RefusesMessage, SendsMessage, engine_after, waits_after}
+use Rattle.snmp_forward.specs.WaitingInforms.{HearsInform, IsAddressed, IsSentInform, RefusesMessage, SendsMessage, engine_after}
 use Rattle.snmp_forward.specs.declared.exchange.InformExchange.{InformExchange}
 use Rattle.snmp_forward.specs.declared.exchange.InformLimits.{InformLimits}
 use Rattle.snmp_forward.specs.declared.inform.Inform.{Inform}
-use Rattle.snmp_forward.specs.declared.informs.InformSent.{InformSent}
 use Rattle.snmp_forward.specs.declared.informs.InformSent.TheVariants as out
 use Rattle.snmp_forward.specs.declared.informs.Informs.{Informs}
 use Rattle.snmp_forward.specs.declared.sealing.Sealing.{Sealing}

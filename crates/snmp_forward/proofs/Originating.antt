@@ -19,7 +19,6 @@ use Rattle.snmp_forward.specs.declared.forwarder.Forwarded.TheVariants as forwar
 use Rattle.snmp_forward.specs.declared.inform.Inform.{Inform}
 use Rattle.snmp_forward.specs.declared.informs.InformSent.{InformSent}
 use Rattle.snmp_forward.specs.declared.informs.InformSent.TheVariants as sends
-use Rattle.snmp_forward.specs.declared.informs.Informs.{Informs}
 use Rattle.snmp_forward.specs.declared.originator.Originated.{Originated}
 use Rattle.snmp_forward.specs.declared.originator.Originated.TheVariants as out
 use Rattle.snmp_forward.specs.declared.originator.Originator.{Originator}

@@ -1,7 +1,7 @@
 -- What an Inform is sent as.
-use Rattle.std.specs.Prelude.{◌≡◌, ◌≢◌, ℕ, ℤ, pos, List, IfOk, IfSome, None, Result, Ok, Err, Option}
+use Rattle.std.specs.Prelude.{◌≡◌, ℕ, ℤ, pos, List, IfOk, IfSome, Result, Ok, Err}
 use Rattle.std.specs.Global.{Vec}
-use Rattle.std.proofs.Common.{refl, sym, ap, subst, ◌∙◌, inl, inr}
+use Rattle.std.proofs.Common.{sym, ap, subst, ◌∙◌, inl}
 use Rattle.engine_clock.specs.Marks.{mark_at}
 use Rattle.snmp_message.specs.Numbers.{in_table}
 use Rattle.snmp_message.specs.declared.refusal.Refusal.{Refusal}

@@ -1,7 +1,7 @@
 -- Tests of tokens.
-use Rattle.std.specs.Prelude.{◌≡◌, ℕ, Bool, true, false, Option, Some, None}
+use Rattle.std.specs.Prelude.{◌≡◌, ℕ, true, false, Option, Some, None}
 use Rattle.std.specs.Option.{option_eq}
-use Rattle.std.proofs.Common.{refl, sym, ap, subst, ◌∙◌, eqb}
+use Rattle.std.proofs.Common.{refl, sym, ap, ◌∙◌, eqb}
 use Rattle.std.proofs.lemmas.Bool.{eqb-true, eq-eqb}
 
 pub has_token : (token : Option ℕ) (t : ℕ) → true ≡ option_eq eqb token (Some t) → token ≡ Some t

@@ -4,7 +4,6 @@
 -- sent. `heard_in`: what was heard. `AreWaits`: nothing was sent, and nothing heard by which another message is due.
 use Rattle.std.specs.Prelude.{◌≡◌, ◌≢◌, ◌≤◌, ℕ, ◌+◌, List, [], ◌∷◌, ◌++◌}
 use Rattle.snmp_requests.specs.declared.device_request.SentMessage.{SentMessage}
-use Rattle.snmp_requests.specs.declared.device_request.NextStep.{NextStep}
 use Rattle.snmp_requests.specs.declared.device_request.NextStep.TheVariants as step
 use Rattle.snmp_requests.specs.DeviceRequestRuns.{HearStep, is_sending}
 use Rattle.snmp_forward.specs.Exchange.{HearsAnswer, IsSent, MayBeTried}

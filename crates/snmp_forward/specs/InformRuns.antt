@@ -3,7 +3,7 @@
 -- `InformEvent`: a call and its answer. `IsInformRun`: the events of Informs, the latest first. `IsInformHistoryOf`: a
 -- history of these events that is lawful. `times_ended`: how often an Inform ended. `IsOwnResponse`: an accepted
 -- message is the Response to the very Inform. `IsMediatedAsk`: the receiver of an Inform may be notified of all of it.
-use Rattle.std.specs.Prelude.{◌≡◌, ◌+◌, ℕ, Bool, true, false, cond, nat_eq, List, [], ◌∷◌, ◌++◌, Contains, None}
+use Rattle.std.specs.Prelude.{◌≡◌, ◌+◌, ℕ, cond, nat_eq, List, [], ◌∷◌, ◌++◌, Contains, None}
 use Rattle.std.specs.Prelude.{Option, Some}
 use Rattle.snmp_gate.specs.declared.devices.Device.{Device}
 use Rattle.snmp_manager.specs.Views.{Held}

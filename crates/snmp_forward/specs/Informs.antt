@@ -6,10 +6,9 @@
 -- `time_request_to`: as what the receiver's engine is asked for its boots and time. `SealsInform`: what comes of
 -- sealing an Inform. `SendsDiscovery`, `SendsTimeRequest`, `SendsInform`: the message that goes out, and what is
 -- remembered of it.
-use Rattle.std.specs.Prelude.{◌≡◌, ◌≢◌, ◌⊎◌, ℕ, ℤ, pos, true, List, [], None, Some, Option, Result, Err, Ok}
+use Rattle.std.specs.Prelude.{◌≡◌, ◌≢◌, ◌⊎◌, ℕ, pos, true, List, [], None, Some, Option, Result, Err, Ok}
 use Rattle.std.specs.Global.{Vec}
 use Rattle.engine_clock.specs.Marks.{SeenPair, mark_at}
-use Rattle.snmp_ber.specs.declared.level.Level.{Level}
 use Rattle.snmp_ber.specs.declared.level.Level.TheVariants.{AuthNoPriv, NoAuthNoPriv}
 use Rattle.snmp_message.specs.Numbers.{in_table}
 use Rattle.snmp_message.specs.declared.refusal.Refusal.{Refusal}

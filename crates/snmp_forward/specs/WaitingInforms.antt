@@ -5,7 +5,7 @@
 -- sent last. `IsAsked`, `IsAskedAs`: an answer of a receiver is waited for. `IsDue`: something is to be done for it.
 -- `IsFirstOf`: the place of the first element with a property. `IsFirstDue`: when something is to be done for the first
 -- of them.
-use Rattle.std.specs.Prelude.{◌≡◌, ◌≢◌, ◌<◌, ◌≤◌, ℕ, Bool, List, [], All, Contains, Option, Some, None, Err, slice_get}
+use Rattle.std.specs.Prelude.{◌≡◌, ◌≤◌, ℕ, Bool, List, [], All, Contains, Option, Some, None, Err, slice_get}
 use Rattle.std.specs.Prelude.{take}
 use Rattle.snmp_requests.specs.declared.device_request.Heard.{Heard}
 use Rattle.snmp_requests.specs.declared.device_request.Known.TheVariants as known

@@ -9,9 +9,9 @@ use Rattle.snmp_manager.specs.declared.pending.Pending.{Pending}
 use Rattle.snmp_requests.specs.declared.device_request.SentMessage.{SentMessage}
 use Rattle.snmp_requests.specs.declared.device_request.SentMessage.TheVariants.{Discovery, TimeRequest, Request}
 use Rattle.snmp_forward.specs.History.{Happening}
-use Rattle.snmp_forward.specs.InformHistory.{InformHappening, InformSetting, IsAsk, known_of}
+use Rattle.snmp_forward.specs.InformHistory.{InformHappening, InformSetting, IsAsk}
 use Rattle.snmp_forward.specs.InformRuns.{IsMediatedAsk, begun_in}
-use Rattle.snmp_forward.specs.InformStanding.{InformsStand, SendsOne, setting_of}
+use Rattle.snmp_forward.specs.InformStanding.{InformsStand, setting_of}
 use Rattle.snmp_forward.specs.Informs.{IsMediated}
 use Rattle.snmp_forward.specs.Originating.{Originates}
 use Rattle.snmp_forward.specs.Standing.{ForwarderStands}

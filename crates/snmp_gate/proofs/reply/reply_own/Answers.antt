@@ -1,4 +1,4 @@
-use Rattle.std.proofs.Common.{ℤ, List, map, rules, subst, sym, to_z, of_z, w32, SFits}
+use Rattle.std.proofs.Common.{ℤ, List, map, rules, subst, sym, w32, SFits}
 use Rattle.std.proofs.lemmas.Int.{to_z-of_z}
 use Rattle.snmp_msg.specs.Variables.{bound_variable}
 use Rattle.snmp_msg.specs.declared.variable.VariableBinding.{VariableBinding}

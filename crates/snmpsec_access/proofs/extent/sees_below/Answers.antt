@@ -1,8 +1,8 @@
-use Rattle.std.proofs.Common.{◌≡◌, ℕ, Bool, true, false, List, ◌++◌, subst, sym}
+use Rattle.std.proofs.Common.{ℕ, List, subst}
 use Rattle.vacm_core.specs.Allowed.{Requester}
 use Rattle.vacm_core.specs.Steps.{requester_of}
 use Rattle.vacm_core.specs.declared.access.Access.TheVariants.{AccessAllowed}
-use Rattle.vacm_core.specs.View.{Includes, AreRowsOf}
+use Rattle.vacm_core.specs.View.{AreRowsOf}
 use Rattle.vacm_next.proofs.Views.{same_rows, included, seen}
 use Rattle.snmpsec_access.proofs.Belows.{opened}
 use Rattle.snmpsec_access.proofs.extent.sees_below.Goals as goal

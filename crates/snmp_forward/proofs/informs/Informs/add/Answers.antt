@@ -1,4 +1,4 @@
-use Rattle.std.proofs.Common.{refl, inl, sym, ap, arith, length}
+use Rattle.std.proofs.Common.{refl, inl, length}
 use Rattle.snmp_forward.proofs.InformKeeping.{begins_well, comes, few_of}
 use Rattle.snmp_forward.proofs.informs.Informs.add.Goals as goal
 

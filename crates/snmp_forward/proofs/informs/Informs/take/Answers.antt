@@ -1,4 +1,4 @@
-use Rattle.std.proofs.Common.{refl, subst, sym, ap, ◌/◌, Option, Result}
+use Rattle.std.proofs.Common.{refl, subst, ◌/◌, Option, Result}
 use Rattle.snmp_incoming.specs.Answers.{given_of}
 use Rattle.snmp_incoming.specs.Outcome.{Given}
 use Rattle.snmp_message.specs.declared.refusal.Refusal.{Refusal}
