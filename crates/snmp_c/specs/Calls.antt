@@ -3,7 +3,8 @@
 -- `Done`, `Accesses`: the answer is the number of the result. `Takes`, `Allows`, `WritesNextName`, `May`,
 -- `Counter`, `RespondsTo`, `Notifies`, `TellsPart`, `TellsMessage`, `TellsNumbers`, `ClearsAgent`: what each
 -- export answers and leaves. `Makes`: the answer of `_new`. `Reconfigured`: another configuration.
--- `ReadsBinding`, `Writes`: bindings as octets. `Spells`: a ScopedPDU as octets. `TellsConfiguration`: why a configuration is refused.
+-- `ReadsBinding`, `Writes`: bindings as octets. `Spells`: a ScopedPDU as octets. `TellsConfiguration`: why a
+-- configuration is refused.
 -- `MaxSize`, `RespondsToWithin`, `UnhandledBy`, `RefusesKept`, `CountOf`, `DropsSilently`: those that go with
 -- an agent's answers. `ManagerMaxSize`, `TookAnswer`, `ToldReport`, `HasReport`: those on the answers to a
 -- manager's requests. `IsValueCode`: whether a content fits its tag.

@@ -146,10 +146,10 @@ pub unsafe extern "C" fn proved_manager_request(
     )
 }
 
-/// Seals a ScopedPDU, one whole SEQUENCE, for this user at the level 1 to 3, with this msgID, msgMaxSize, engine ID, boots
-/// and time, and with the reportableFlag where that isn't 0, and leaves it as the message to be sent. Its answer isn't
-/// waited for. It answers -1 where a number, a length or the ScopedPDU is out of its range, and the refusals of sending:
-/// 7, 8, 16, 14. Then nothing changes.
+/// Seals a ScopedPDU, one whole SEQUENCE, for this user at the level 1 to 3, with this msgID, msgMaxSize, engine ID,
+/// boots and time, and with the reportableFlag where that isn't 0, and leaves it as the message to be sent. Its
+/// answer isn't waited for. It answers -1 where a number, a length or the ScopedPDU is out of its range, and the
+/// refusals of sending: 7, 8, 16, 14. Then nothing changes.
 #[unsafe(no_mangle)]
 pub unsafe extern "C" fn proved_manager_seal(
     at: *mut u8,

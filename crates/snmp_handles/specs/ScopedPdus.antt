@@ -1,7 +1,7 @@
 -- A ScopedPDU that a caller has written (RFC 3412, section 6.8, and RFC 3416, section 3).
 --
--- `Saying`: what it says besides its bindings. `said_text`: its text with bindings. `WritesScoped`: it is written into a
--- buffer; `IsTooLong`: it is longer than a datagram.
+-- `Saying`: what it says besides its bindings. `said_text`: its text with bindings. `WritesScoped`: it is written
+-- into a buffer; `IsTooLong`: it is longer than a datagram.
 use Rattle.std.specs.Prelude.{◌≡◌, ◌<◌, ◌≤◌, ◌⊎◌, ℕ, ℤ, List, length, Result, Ok, Err}
 use Rattle.std.specs.Global.{Vec}
 use Rattle.snmp_message.specs.declared.message.TheConstants.{LARGEST}

@@ -1,8 +1,8 @@
 -- A ScopedPDU that a caller has sealed as it says: with any numbers of the header and any boots and time (RFC 3412,
 -- section 6, and RFC 3414, sections 2.4 and 3.1).
 --
--- `Sealing`: how it is sealed, and for whom. `sealed_as`: the message. `HasNoHeader`, `IsUnsealable`: a number, a length
--- or the ScopedPDU is out of its range. `SealsHeld`: the message is left to be sent.
+-- `Sealing`: how it is sealed, and for whom. `sealed_as`: the message. `HasNoHeader`, `IsUnsealable`: a number,
+-- a length or the ScopedPDU is out of its range. `SealsHeld`: the message is left to be sent.
 use Rattle.std.specs.Prelude.{◌≡◌, ◌<◌, ◌⊎◌, ℕ, Bool, List, length, Some, None, Option, Result, Ok, Err, IfSome}
 use Rattle.snmp_ber.specs.Element.{IsElement}
 use Rattle.snmp_ber.specs.declared.level.Level.{Level}
@@ -112,7 +112,8 @@ RefusesSealing held s salt scoped (Refused fault) = (IsUnsealable s scoped → �
 RefusesSealing held s salt scoped _ = ⊥
 
 -- The message is to be sent. The users, the clocks, what is kept and what is waited for are as they were.
-abbrev pub SealsHeld : {V : Type 0} → ManagerHeld → Sealing → List ℕ → List ℕ → Result V CallFault → ManagerHeld → Type 0
+abbrev pub SealsHeld : {V : Type 0} → ManagerHeld → Sealing → List ℕ → List ℕ → Result V CallFault → ManagerHeld
+    → Type 0
 SealsHeld old s salt scoped (Ok done) new = (IsUnsealable s scoped → ⊥)
     × ((level : Level) × (text : List ℕ) × (level_of s.level ≡ Some level)
     × Seals old.manager.users (sealed_as s level salt scoped) (Ok text)

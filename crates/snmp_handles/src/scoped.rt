@@ -10,8 +10,8 @@ use crate::parts::copy_to;
 use snmp_msg::{write_pdu_of, write_scoped};
 use std::alloc::Global;
 
-/// What a ScopedPDU says besides its bindings (RFC 3412, section 6.8, and RFC 3416, section 3). The three numbers may be
-/// negative, as no request of `ManagerHandle::request` has them.
+/// What a ScopedPDU says besides its bindings (RFC 3412, section 6.8, and RFC 3416, section 3). The three numbers may
+/// be negative, which those of `ManagerHandle::request` aren't.
 #[derive(Clone, Copy, Debug)]
 pub struct ScopedOf<'a> {
     /// contextEngineID, of any length.
@@ -45,12 +45,12 @@ fn scoped_text(alloc: Global, of: &ScopedOf<'_>, list: &[u8]) -> Result<Vec<u8>,
     }
 }
 
-/// Writes a ScopedPDU with the bindings that these octets are, in its shortest spelling, to the front of the buffer, and
-/// tells how many octets it has.
+/// Writes a ScopedPDU with the bindings that these octets are, in its shortest spelling, to the front of the buffer,
+/// and tells how many octets it has.
 ///
 /// The errors are BadArgument, where the tag is no PDU's; BadBindings; TooLarge (16), where it has more than 65,507
-/// octets; out of memory; and ShortBuffer. They leave the buffer as it was, and ShortBuffer alone tells how many octets
-/// are wanted.
+/// octets; out of memory; and ShortBuffer. They leave the buffer as it was, and ShortBuffer alone tells how many
+/// octets are wanted.
 pub fn write_scoped_pdu(
     alloc: Global,
     of: &ScopedOf<'_>,

@@ -15,7 +15,7 @@ use snmp_msg::{Header, USER_BASED, whole_slice};
 /// The least msgMaxSize (RFC 3412, section 6).
 const LEAST_SIZE: u32 = 484;
 
-/// How a ScopedPDU is sealed, and for whom. No manager is asked for boots, time and size: they are what the caller says.
+/// How a ScopedPDU is sealed, and for whom. Boots, time and size are what the caller says: no clock is looked at.
 #[derive(Clone, Copy, Debug)]
 pub struct SealedOf<'a> {
     /// msgID, at most 2147483647.
@@ -69,11 +69,11 @@ fn is_sequence(octets: &[u8]) -> bool
 }
 
 impl ManagerHandle {
-    /// Seals a ScopedPDU (RFC 3414, section 3.1) as `of` says, and leaves the message to be sent. Its answer isn't waited
-    /// for: users, clocks, what is kept and what is waited for stay. On an error nothing changes.
+    /// Seals a ScopedPDU (RFC 3414, section 3.1) as `of` says, and leaves the message to be sent. Its answer isn't
+    /// waited for: users, clocks, what is kept and what is waited for stay. On an error nothing changes.
     ///
-    /// The errors are, the first that applies: BadArgument, where a number of `of` is out of its range, the name is longer
-    /// than 32 octets or `scoped` isn't one whole SEQUENCE; at levels with authentication UnknownUser (7) and
+    /// The errors are, the first that applies: BadArgument, where a number of `of` is out of its range, the name is
+    /// longer than 32 octets or `scoped` isn't one whole SEQUENCE; at levels with authentication UnknownUser (7) and
     /// UnsupportedLevel (8); and TooLarge (16), or out of memory, whichever is met first.
     pub fn seal(&mut self, of: &SealedOf<'_>, scoped: &[u8], salt: u64) -> Result<(), CallFault>
         ensures { SealsHeld self.old (sealing_of of.now)

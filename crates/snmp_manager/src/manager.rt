@@ -1,6 +1,7 @@
 //! The manager.
 
-ghost use Rattle.std.specs.Prelude.{◌≡◌, ◌+◌, ◌<◌, ◌≤◌, ◌⊎◌, ℕ, pos, List, [], All, length, map, slice_get, Some, Ok, Err};
+ghost use Rattle.std.specs.Prelude.{◌≡◌, ◌+◌, ◌<◌, ◌≤◌, ◌⊎◌, ℕ, pos, List, [], All, length, map, slice_get, Some};
+ghost use Rattle.std.specs.Prelude.{Ok, Err};
 ghost use Rattle.std.specs.Prelude.{IfOk, IfErr, IfSome, IsOk, IsSome, MatchResult, OnErr, OnOk};
 ghost use Rattle.std.specs.Global.{Vec as Octets};
 ghost use Rattle.std.specs.Option.{option_map};
@@ -388,8 +389,7 @@ impl Manager {
         Ok((text, Pending::of(self.alloc, &envelope, &body.front())?))
     }
 
-    /// A message with any header and any ScopedPDU (RFC 3414, section 3.1), as `Users::seal` writes it. No clock is looked
-    /// at, and all is as before.
+    /// A message with any header and any ScopedPDU, as `Users::seal` writes it. No clock is looked at.
     ///
     /// The errors are those of `Users::seal`, in its order.
     pub fn seal(
