@@ -163,9 +163,6 @@ static void no_scoped(void) {
     scoped = (snmpsec_scoped){.pdu = SNMPSEC_GET_REQUEST, .context_name = {large, sizeof large}};
     check("scoped: too large", SNMPSEC_TOO_LARGE, snmpsec_scoped_write(&scoped, out, sizeof out, &written));
     scoped.context_name.len = 0;
-    left = 0;
-    check("scoped: no memory", SNMPSEC_OUT_OF_MEMORY, snmpsec_scoped_write(&scoped, out, sizeof out, &written));
-    left = -1;
     check("nothing is counted", 7, (long long)written);
     check("scoped: no room", SNMPSEC_SHORT_BUFFER, snmpsec_scoped_write(&scoped, out, 18, &written));
     check("so much is wanted", 19, (long long)written);
@@ -212,15 +209,42 @@ static void seal_arguments(void) {
     check("null: seal", SNMPSEC_BAD_ARGUMENT, snmpsec_manager_seal(NULL, &sealing));
     check("no sealing", SNMPSEC_BAD_ARGUMENT, snmpsec_manager_seal(manager, NULL));
     check("seal: too large", SNMPSEC_TOO_LARGE, snmpsec_manager_seal(manager, &sealing));
-    left = 0;
-    check("seal: no memory", SNMPSEC_OUT_OF_MEMORY, sealed_by(manager, &private, true, &scoped));
-    left = -1;
     struct text still = message_of(manager);
     check("the message is there still", 1, is_same(&message, &still));
     check("new", 0, snmpsec_manager_new((const uint8_t *)without_privacy, strlen(without_privacy), no_clocks, NO_CLOCKS, NOW, &other));
     check("seal: no privacy", SNMPSEC_UNSUPPORTED_LEVEL, sealed_by(other, &private, true, &scoped));
     snmpsec_manager_free(manager);
     snmpsec_manager_free(other);
+}
+
+/* Each growth of memory refused in turn: the answer says so, and the message is there still. */
+static void refused_memory(void) {
+    const struct row row = {"", 0, 1, LEAST, 3, BOOTS, TIME, "ann", 0};
+    snmpsec_scoped said = {.pdu = SNMPSEC_GET_REQUEST};
+    snmpsec_manager *manager = NULL;
+    struct text scoped = {.len = 0};
+    int answer = SNMPSEC_OUT_OF_MEMORY;
+    for (long n = 0; n < 100 && answer; n++) {
+        left = n;
+        answer = snmpsec_scoped_write(&said, scoped.octets, sizeof scoped.octets, &scoped.len);
+        left = -1;
+        if (answer) check("scoped: no memory", SNMPSEC_OUT_OF_MEMORY, answer);
+    }
+    check("scoped: memory", 0, answer);
+    check("new", 0, begin(&manager));
+    check("discover", 0, snmpsec_manager_discover(manager, 7));
+    struct text request = message_of(manager);
+    answer = SNMPSEC_OUT_OF_MEMORY;
+    for (long n = 0; n < 100 && answer; n++) {
+        left = n;
+        answer = sealed_by(manager, &row, true, &scoped);
+        left = -1;
+        struct text still = message_of(manager);
+        if (answer) check("seal: no memory", SNMPSEC_OUT_OF_MEMORY, answer);
+        check("the message is there until it is sealed", answer != 0, is_same(&request, &still));
+    }
+    check("seal: memory", 0, answer);
+    snmpsec_manager_free(manager);
 }
 
 /* What an agent keeps of a sealed message. */
@@ -332,6 +356,7 @@ int main(int argc, char **argv) {
     absorbed();
     no_scoped();
     seal_arguments();
+    refused_memory();
     sealed_and_read();
     reported_or_not();
     replayed(argv[3]);
