@@ -397,6 +397,28 @@ typedef struct snmpsec_clock { uint32_t boots, time; } snmpsec_clock;
 /* What is held of an engine: SNMPSEC_BAD_ARGUMENT: no engine ID; SNMPSEC_NOTHING_TAKEN: nothing is held. */
 SNMPSEC_CHECK int snmpsec_manager_clock(snmpsec_manager *manager, const uint8_t *engine, size_t engine_len, snmpsec_clock *out);
 
+/* How a scopedPDU is sealed, and for whom (RFC 3412, section 6; RFC 3414, section 2.4): for programs that test agents, which send what no well-behaved
+ * manager sends. */
+typedef struct snmpsec_sealing {
+    /* msgID, 0 to 2147483647, and msgMaxSize in octets, 484 to 2147483647 */
+    uint32_t message_id, max_size;
+    /* the reportableFlag of msgFlags */
+    bool is_reportable;
+    snmpsec_level level;
+    /* the authoritative engine's ID, of any length, and the user's name, of at most 32 octets */
+    snmpsec_octets engine, user;
+    /* boots and time, in seconds, that the message says of that engine: each 0 to 2147483647 */
+    uint32_t boots, time;
+    /* one whole SEQUENCE, as snmpsec_scoped_write writes it; what stands in it isn't looked at */
+    snmpsec_octets scoped;
+    uint64_t salt;
+} snmpsec_sealing;
+
+/* Seals a scopedPDU, and leaves the message to be sent as snmpsec_manager_request does. No answer to it is waited for: the clocks, what is kept and
+ * what is waited for stay. SNMPSEC_BAD_ARGUMENT: a number or a length is out of its range, or `scoped` isn't one whole SEQUENCE; or a refusal:
+ * SNMPSEC_UNKNOWN_USER and SNMPSEC_UNSUPPORTED_LEVEL, at levels with authentication; SNMPSEC_TOO_LARGE, SNMPSEC_OUT_OF_MEMORY. */
+SNMPSEC_CHECK int snmpsec_manager_seal(snmpsec_manager *manager, const snmpsec_sealing *sealing);
+
 /* ---- a gateway: managers that speak SNMPv3 before devices that speak SNMPv2c (docs/gateway.md)
  *
  * Moments are milliseconds from one beginning that don't go back; the agent's seconds are those moments by 1000. The program has the sockets: it gives
@@ -558,6 +580,22 @@ SNMPSEC_CHECK int snmpsec_binding_read(const uint8_t *list, size_t list_len, siz
  * 65507 octets; SNMPSEC_OUT_OF_MEMORY; SNMPSEC_SHORT_BUFFER, and *written says how much is wanted. */
 SNMPSEC_CHECK int snmpsec_binding_write(const uint32_t *arcs, size_t arcs_len, uint8_t tag, const uint8_t *content, size_t content_len,
                                         uint8_t *out, size_t out_len, size_t *written);
+
+/* What a scopedPDU says (RFC 3412, section 6.8; RFC 3416, section 3). Its numbers may be negative, which no well-behaved program writes, and its
+ * contextEngineID and contextName have any length. */
+typedef struct snmpsec_scoped {
+    snmpsec_pdu pdu;
+    int32_t request_id;
+    union { int32_t error_status, non_repeaters; };
+    union { int32_t error_index, max_repetitions; };
+    snmpsec_octets context_engine, context_name;
+    snmpsec_octets list;
+} snmpsec_scoped;
+
+/* Writes a scopedPDU, which snmpsec_manager_seal seals: SNMPSEC_BAD_ARGUMENT: no such PDU; SNMPSEC_BAD_BINDINGS; SNMPSEC_TOO_LARGE: it would have more
+ * than 65507 octets; SNMPSEC_OUT_OF_MEMORY; SNMPSEC_SHORT_BUFFER, and *written says how much is wanted. */
+SNMPSEC_CHECK int snmpsec_scoped_write(const snmpsec_scoped *scoped, uint8_t *out, size_t out_len, size_t *written);
+
 /* Whether this is the content of a value with this tag (RFC 2578, section 7.1; RFC 3416, section 3); false where the tag is of no value. */
 SNMPSEC_CHECK bool snmpsec_value_is(uint8_t tag, const uint8_t *content, size_t content_len);
 

@@ -435,6 +435,14 @@ int snmpsec_manager_clock(snmpsec_manager *manager, const uint8_t *engine, size_
     return manager && out ? proved_manager_pair(manager->held, in(engine, engine_len), engine_len, &out->boots, &out->time) : SNMPSEC_BAD_ARGUMENT;
 }
 
+int snmpsec_manager_seal(snmpsec_manager *manager, const snmpsec_sealing *s) {
+    if (!manager || !s) return SNMPSEC_BAD_ARGUMENT;
+    return written_request(
+        manager, proved_manager_seal(manager->held, s->message_id, s->max_size, s->is_reportable, in(s->engine.at, s->engine.len), s->engine.len,
+                                     s->boots, s->time, in(s->user.at, s->user.len), s->user.len, s->level, in(s->scoped.at, s->scoped.len),
+                                     s->scoped.len, s->salt));
+}
+
 int snmpsec_binding_read(const uint8_t *list, size_t list_len, size_t *at, snmpsec_binding *out) {
     enum { ARCS, TAG, AT, LENGTH, NEXT, PLACES };
     size_t n[PLACES];
@@ -453,6 +461,13 @@ int snmpsec_binding_write(const uint32_t *arcs, size_t arcs_len, uint8_t tag, co
                           size_t out_len, size_t *written) {
     if (!written) return SNMPSEC_BAD_ARGUMENT;
     return proved_binding_write(name(arcs, arcs_len), arcs_len, tag, in(content, content_len), content_len, room(out, out_len), out_len, written);
+}
+
+int snmpsec_scoped_write(const snmpsec_scoped *s, uint8_t *out, size_t out_len, size_t *written) {
+    if (!s || !written) return SNMPSEC_BAD_ARGUMENT;
+    return proved_scoped_write(in(s->context_engine.at, s->context_engine.len), s->context_engine.len, in(s->context_name.at, s->context_name.len),
+                               s->context_name.len, s->pdu, s->request_id, s->error_status, s->error_index, in(s->list.at, s->list.len),
+                               s->list.len, room(out, out_len), out_len, written);
 }
 
 bool snmpsec_value_is(uint8_t tag, const uint8_t *content, size_t content_len) {

@@ -34,6 +34,19 @@ test_cut_bulks() {
     done
 }
 
+# A number below 0 counts as 0 (RFC 3416, section 4.2.3), and the request-id comes back.
+test_negative_numbers() {
+    local level told
+    for level in 1 2 3; do
+        told=$(raw $(as_level $level) id=-1 tag=a5 second=-1 third=2 $system.1 $system.4)
+        has "non-repeaters of -1 at level $level" "status 0, index 0, context '', 4 bindings" "$told"
+        has "and a request-id of -1" ", request-id -1" "$told"
+        told=$(raw $(as_level $level) id=-2147483648 tag=a5 second=1 third=-2147483648 $system.1 $system.4)
+        has "the least max-repetitions at level $level" "status 0, index 0, context '', 1 bindings" "$told"
+        has "and the least request-id" ", request-id -2147483648" "$told"
+    done
+}
+
 test_too_big() {
     has "a Get that is too long" "tag a2, status 1, index 0, context '', 0 bindings" "$(raw max=484 times=40 $system.1.0)"
     has "a GetNext that is too long" "tag a2, status 1, index 0, context '', 0 bindings" "$(raw max=484 tag=a1 times=40 $system.1.0)"
@@ -185,6 +198,7 @@ if ! command -v python3 > /dev/null; then
 else
     begin_dispatch --long-answers
     test_cut_bulks
+    test_negative_numbers
     test_too_big
     end_agent
     begin_dispatch --no-amplification

@@ -1,7 +1,7 @@
 /* Calls on a manager: manager_calls CONFIG CAPTURED-LOG PRINTED
  *
- * Arguments out of their ranges, buffers that are too short, saved clocks, and the captured log, whose answers are those that the
- * program's replay printed. Not proved. */
+ * Arguments out of their ranges, buffers that are too short, saved clocks, scopedPDUs that are sealed under any header and read by an agent, and the
+ * captured log, whose answers are those that the program's replay printed. Not proved. */
 #include "checks.h"
 #include <stdio.h>
 #include <stdlib.h>
@@ -137,6 +137,185 @@ static void absorbed(void) {
     snmpsec_manager_free(manager);
 }
 
+/* ---- scopedPDUs that are sealed under any header */
+
+enum { LEAST = 484, GREATEST = 2147483647, NEGATIVE = -2147483647 - 1, REQUEST_ID = -1 };
+
+/* A scopedPDU without bindings. */
+static struct text scoped_of(int32_t request_id, int32_t second, int32_t third) {
+    struct text text = {.len = 0};
+    snmpsec_scoped scoped = {.pdu = SNMPSEC_GET_BULK_REQUEST, .request_id = request_id, .non_repeaters = second, .max_repetitions = third,
+                             .context_engine = {engine, sizeof engine}};
+    check("scoped", 0, snmpsec_scoped_write(&scoped, text.octets, sizeof text.octets, &text.len));
+    return text;
+}
+
+static void no_scoped(void) {
+    static uint8_t large[SNMPSEC_LARGEST];
+    snmpsec_scoped scoped = {.pdu = SNMPSEC_GET_REQUEST, .list = {large, 1}};
+    uint8_t out[64];
+    size_t written = 7;
+    check("null: scoped", SNMPSEC_BAD_ARGUMENT, snmpsec_scoped_write(NULL, out, sizeof out, &written));
+    check("no count", SNMPSEC_BAD_ARGUMENT, snmpsec_scoped_write(&scoped, out, sizeof out, NULL));
+    check("scoped: bindings", SNMPSEC_BAD_BINDINGS, snmpsec_scoped_write(&scoped, out, sizeof out, &written));
+    scoped.pdu = (snmpsec_pdu)0xA4;
+    check("scoped: tag", SNMPSEC_BAD_ARGUMENT, snmpsec_scoped_write(&scoped, out, sizeof out, &written));
+    scoped = (snmpsec_scoped){.pdu = SNMPSEC_GET_REQUEST, .context_name = {large, sizeof large}};
+    check("scoped: too large", SNMPSEC_TOO_LARGE, snmpsec_scoped_write(&scoped, out, sizeof out, &written));
+    scoped.context_name.len = 0;
+    check("nothing is counted", 7, (long long)written);
+    check("scoped: no room", SNMPSEC_SHORT_BUFFER, snmpsec_scoped_write(&scoped, out, 18, &written));
+    check("so much is wanted", 19, (long long)written);
+    check("scoped: room", 0, snmpsec_scoped_write(&scoped, out, 19, &written));
+    check("the text", 0, memcmp(out, "\x30\x11\x04\0\x04\0\xa0\x0b\x02\x01\0\x02\x01\0\x02\x01\0\x30\0", 19));
+}
+
+/* How a scopedPDU is sealed, and what the call answers. */
+struct row { const char *name; int expected; uint32_t message_id, max_size, level, boots, time; const char *user; size_t cut; };
+
+static const struct row rows[] = {
+    {"seal: msgID", SNMPSEC_BAD_ARGUMENT, 2147483648u, LEAST, 3, BOOTS, TIME, "ann", 0},
+    {"seal: msgMaxSize of 483", SNMPSEC_BAD_ARGUMENT, 1, LEAST - 1, 3, BOOTS, TIME, "ann", 0},
+    {"seal: msgMaxSize of 2147483648", SNMPSEC_BAD_ARGUMENT, 1, 2147483648u, 3, BOOTS, TIME, "ann", 0},
+    {"seal: level 0", SNMPSEC_BAD_ARGUMENT, 1, LEAST, 0, BOOTS, TIME, "ann", 0},
+    {"seal: level 4", SNMPSEC_BAD_ARGUMENT, 1, LEAST, 4, BOOTS, TIME, "ann", 0},
+    {"seal: boots", SNMPSEC_BAD_ARGUMENT, 1, LEAST, 3, 2147483648u, TIME, "ann", 0},
+    {"seal: time", SNMPSEC_BAD_ARGUMENT, 1, LEAST, 3, BOOTS, 2147483648u, "ann", 0},
+    {"seal: a name of 33 octets", SNMPSEC_BAD_ARGUMENT, 1, LEAST, 3, BOOTS, TIME, "012345678901234567890123456789012", 0},
+    {"seal: a scopedPDU that is cut", SNMPSEC_BAD_ARGUMENT, 1, LEAST, 3, BOOTS, TIME, "ann", 1},
+    {"seal: no such user", SNMPSEC_UNKNOWN_USER, 1, LEAST, 2, BOOTS, TIME, "eve", 0},
+    {"seal: nobody without authentication", 0, 1, LEAST, 1, BOOTS, TIME, "eve", 0},
+    {"seal: the least", 0, 0, LEAST, 3, 0, 0, "ann", 0},
+    {"seal: the greatest", 0, GREATEST, GREATEST, 3, GREATEST, GREATEST, "ann", 0},
+};
+
+static int sealed_by(snmpsec_manager *manager, const struct row *row, bool is_reportable, const struct text *scoped) {
+    snmpsec_sealing sealing = {.message_id = row->message_id, .max_size = row->max_size, .is_reportable = is_reportable,
+                               .level = (snmpsec_level)row->level, .engine = {engine, sizeof engine}, .boots = row->boots, .time = row->time,
+                               .user = {(const uint8_t *)row->user, strlen(row->user)}, .scoped = {scoped->octets, scoped->len - row->cut}, .salt = 1};
+    return snmpsec_manager_seal(manager, &sealing);
+}
+
+static void seal_arguments(void) {
+    static const char *const without_privacy = "[[user]]\nname = \"ann\"\nauth = \"md5\"\nauth-password = \"maplesyrup\"\n";
+    static uint8_t large[SNMPSEC_LARGEST] = {0x30, 0x82, 0xff, 0xdf};
+    const struct row private = {"", 0, 1, LEAST, 3, BOOTS, TIME, "ann", 0};
+    struct text scoped = scoped_of(1, 0, 0);
+    snmpsec_sealing sealing = {.max_size = LEAST, .level = SNMPSEC_NO_AUTH_NO_PRIV, .scoped = {large, sizeof large}};
+    snmpsec_manager *manager = NULL, *other = NULL;
+    check("new", 0, begin(&manager));
+    for (size_t i = 0; i < sizeof rows / sizeof *rows; i++) check(rows[i].name, rows[i].expected, sealed_by(manager, &rows[i], true, &scoped));
+    struct text message = message_of(manager);
+    check("null: seal", SNMPSEC_BAD_ARGUMENT, snmpsec_manager_seal(NULL, &sealing));
+    check("no sealing", SNMPSEC_BAD_ARGUMENT, snmpsec_manager_seal(manager, NULL));
+    check("seal: too large", SNMPSEC_TOO_LARGE, snmpsec_manager_seal(manager, &sealing));
+    struct text still = message_of(manager);
+    check("the message is there still", 1, is_same(&message, &still));
+    check("new", 0, snmpsec_manager_new((const uint8_t *)without_privacy, strlen(without_privacy), no_clocks, NO_CLOCKS, NOW, &other));
+    check("seal: no privacy", SNMPSEC_UNSUPPORTED_LEVEL, sealed_by(other, &private, true, &scoped));
+    snmpsec_manager_free(manager);
+    snmpsec_manager_free(other);
+}
+
+/* Each growth of memory refused in turn: the answer says so, and the message is there still. */
+static void refused_memory(void) {
+    const struct row row = {"", 0, 1, LEAST, 3, BOOTS, TIME, "ann", 0};
+    snmpsec_scoped said = {.pdu = SNMPSEC_GET_REQUEST};
+    snmpsec_manager *manager = NULL;
+    struct text scoped = {.len = 0};
+    int answer = SNMPSEC_OUT_OF_MEMORY;
+    for (long n = 0; n < 100 && answer; n++) {
+        left = n;
+        answer = snmpsec_scoped_write(&said, scoped.octets, sizeof scoped.octets, &scoped.len);
+        left = -1;
+        if (answer) check("scoped: no memory", SNMPSEC_OUT_OF_MEMORY, answer);
+    }
+    check("scoped: memory", 0, answer);
+    check("new", 0, begin(&manager));
+    check("discover", 0, snmpsec_manager_discover(manager, 7));
+    struct text request = message_of(manager);
+    answer = SNMPSEC_OUT_OF_MEMORY;
+    for (long n = 0; n < 100 && answer; n++) {
+        left = n;
+        answer = sealed_by(manager, &row, true, &scoped);
+        left = -1;
+        struct text still = message_of(manager);
+        if (answer) check("seal: no memory", SNMPSEC_OUT_OF_MEMORY, answer);
+        check("the message is there until it is sealed", answer != 0, is_same(&request, &still));
+    }
+    check("seal: memory", 0, answer);
+    snmpsec_manager_free(manager);
+}
+
+/* What an agent keeps of a sealed message. */
+static void seen_by(snmpsec_agent *agent, const struct row *row, int32_t second, int32_t third) {
+    snmpsec_info info = {0};
+    uint32_t size = 0;
+    check("info", 0, snmpsec_agent_info(agent, &info));
+    check("its level", row->level, info.level);
+    check("its PDU", SNMPSEC_GET_BULK_REQUEST, info.pdu);
+    check("its request-id", REQUEST_ID, info.request_id);
+    check("its non-repeaters", second, info.non_repeaters);
+    check("its max-repetitions", third, info.max_repetitions);
+    check("its msgID", row->message_id, info.message_id);
+    check("msgMaxSize", 0, snmpsec_agent_max_size(agent, &size));
+    check("its msgMaxSize", row->max_size, size);
+}
+
+/* Negative numbers and another msgMaxSize are read by an agent, and the Response has the request-id. No clock is learned by sealing. */
+static void sealed_and_read(void) {
+    const struct row row = {"", 0, 7, LEAST, 3, BOOTS, TIME, "ann", 0};
+    snmpsec_agent *agent = NULL;
+    snmpsec_manager *manager = NULL;
+    snmpsec_clock clock;
+    snmpsec_reply reply;
+    snmpsec_info info = {0};
+    struct text scoped = scoped_of(REQUEST_ID, NEGATIVE, GREATEST), back = {.len = 0};
+    check("agent", 0, snmpsec_agent_new(config, config_len, engine, sizeof engine, BOOTS, NOW - TIME, &agent));
+    check("new", 0, begin(&manager));
+    check("seal", 0, sealed_by(manager, &row, true, &scoped));
+    check("no clock is learned", SNMPSEC_NOTHING_TAKEN, snmpsec_manager_clock(manager, engine, sizeof engine, &clock));
+    struct text message = message_of(manager);
+    check("the agent takes it", 0, snmpsec_agent_take(agent, NOW, message.octets, message.len));
+    seen_by(agent, &row, NEGATIVE, GREATEST);
+    check("respond", 0, snmpsec_agent_respond(agent, NOW, 0, 0, nothing, 0, 1));
+    check("the Response", 0, snmpsec_agent_message(agent, back.octets, sizeof back.octets, &back.len));
+    check("the manager takes it", 0, snmpsec_manager_take(manager, NOW, back.octets, back.len));
+    check("nothing is waited for", SNMPSEC_NOTHING_TAKEN, snmpsec_manager_reply(manager, &reply));
+    check("info", 0, snmpsec_manager_info(manager, &info));
+    check("the same request-id", REQUEST_ID, info.request_id);
+    check("the same msgID", 7, info.message_id);
+    snmpsec_agent_free(agent);
+    snmpsec_manager_free(manager);
+}
+
+/* A message outside of the time window is reported exactly where it says so. What is waited for stays. */
+static void reported_or_not(void) {
+    const struct row late = {"", 0, 7, GREATEST, 2, BOOTS + 1, TIME, "ann", 0};
+    snmpsec_agent *agent = NULL;
+    snmpsec_manager *manager = NULL;
+    snmpsec_reply reply = {0};
+    struct text scoped = scoped_of(REQUEST_ID, 0, 0), back = {.len = 0};
+    check("agent", 0, snmpsec_agent_new(config, config_len, engine, sizeof engine, BOOTS, NOW - TIME, &agent));
+    check("new", 0, begin(&manager));
+    check("request", 0, ask(manager, "ann", SNMPSEC_NO_AUTH_NO_PRIV, 0xA0, 5, sizeof engine, 0));
+    struct text request = message_of(manager);
+    for (int is_reportable = 0; is_reportable < 2; is_reportable++) {
+        check("seal", 0, sealed_by(manager, &late, is_reportable, &scoped));
+        struct text message = message_of(manager);
+        check("boots of another time", SNMPSEC_NOT_IN_WINDOW, snmpsec_agent_take(agent, NOW, message.octets, message.len));
+        check("its report", is_reportable ? 0 : SNMPSEC_NOTHING_TAKEN, snmpsec_agent_message(agent, back.octets, sizeof back.octets, &back.len));
+    }
+    check("the agent takes the request", 0, snmpsec_agent_take(agent, NOW, request.octets, request.len));
+    check("respond", 0, snmpsec_agent_respond(agent, NOW, 0, 0, nothing, 0, 1));
+    check("the Response", 0, snmpsec_agent_message(agent, back.octets, sizeof back.octets, &back.len));
+    check("the manager takes it", 0, snmpsec_manager_take(manager, NOW, back.octets, back.len));
+    check("it is waited for still", 0, snmpsec_manager_reply(manager, &reply));
+    check("the Response to the request", SNMPSEC_REPLY_RESPONSE, reply.kind);
+    snmpsec_agent_free(agent);
+    snmpsec_manager_free(manager);
+}
+
 /* One line of what replay printed beside the answer: `N MOMENT accepted LEVEL TAG`, or `N MOMENT refused NUMBER NAME`. */
 static void as_printed(snmpsec_manager *manager, const char *line, size_t i) {
     static const char *const levels[] = {"", "noAuthNoPriv", "authNoPriv", "authPriv"};
@@ -175,6 +354,11 @@ int main(int argc, char **argv) {
     arguments();
     request_and_saved();
     absorbed();
+    no_scoped();
+    seal_arguments();
+    refused_memory();
+    sealed_and_read();
+    reported_or_not();
     replayed(argv[3]);
     return checks_told();
 }

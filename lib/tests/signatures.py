@@ -23,9 +23,9 @@ DECLARED = set(re.findall(r"\bsnmpsec_(\w+)\(", HEADER))
 NOT_IN_PYTHON = {"agent_allows", "agent_user_allows", "wipe"}
 NOT_IN_RUST = {"agent_allows", "agent_user_allows", "error_name"}
 
-STRUCTS = {"Octets": "octets", "Info": "info", "Counters": "counters", "Counts": "counts", "Report": "report", "Reply": "reply", "Answered": "answered", "Heard": "answered", "Device": "device", "Clock": "clock", "ConfigPlace": "config_place", "GateInfo": "gate_info", "ForwardInfo": "forward_info", "Notice": "notice", "Request": "request",
+STRUCTS = {"Octets": "octets", "Info": "info", "Counters": "counters", "Counts": "counts", "Report": "report", "Reply": "reply", "Answered": "answered", "Heard": "answered", "Device": "device", "Clock": "clock", "ConfigPlace": "config_place", "GateInfo": "gate_info", "ForwardInfo": "forward_info", "Notice": "notice", "Request": "request", "Sealing": "sealing", "Scoped": "scoped",
            "BindingRead": "binding"}
-READ = {"Octets", "Notice", "Request", "Heard"}  # structs that a call only reads
+READ = {"Octets", "Notice", "Request", "Sealing", "Scoped", "Heard"}  # structs that a call only reads
 
 
 def snake(name):
@@ -148,7 +148,7 @@ def rust_numbers():
 EXPORT_TYPES = {"*mut u8": ["void *"], "&mut *mut u8": ["void **"], "&[u8]": ["const uint8_t *", "size_t"], "&mut [u8]": ["uint8_t *", "size_t"],
                 "&[u32]": ["const uint32_t *", "size_t"], "&mut [u32]": ["uint32_t *", "size_t"], "&mut [i32]": ["int32_t *", "size_t"], "&mut [i64]": ["int64_t *", "size_t"],
                 "&mut [u64]": ["uint64_t *", "size_t"],
-                "&mut [usize]": ["size_t *", "size_t"], "&mut usize": ["size_t *"], "&mut u32": ["uint32_t *"], "&mut u64": ["uint64_t *"], "u32": ["uint32_t"], "u64": ["uint64_t"],
+                "&mut [usize]": ["size_t *", "size_t"], "&mut usize": ["size_t *"], "&mut u32": ["uint32_t *"], "&mut u64": ["uint64_t *"], "u32": ["uint32_t"], "i32": ["int32_t"], "u64": ["uint64_t"],
                 "usize": ["size_t"], "Global": []}
 
 

@@ -91,6 +91,18 @@ static void ask(void) {
     snmpsec_request r = asked();
     answer = snmpsec_manager_ask(manager, NOW, &r, &token);
 }
+static uint8_t scoped[65536];
+static size_t scoped_len;
+static void scoped_write(void) {
+    snmpsec_scoped said = {.pdu = SNMPSEC_GET_REQUEST, .request_id = -1, .context_engine = {engine, sizeof engine}, .list = {list, list_len}};
+    answer = snmpsec_scoped_write(&said, scoped, sizeof scoped, &scoped_len);
+}
+static void manager_seal(void) {
+    id++;
+    snmpsec_sealing sealing = {.message_id = id, .max_size = 484, .level = level, .engine = {engine, sizeof engine}, .boots = 5, .time = 100,
+                               .user = {(const uint8_t *)user, 3}, .scoped = {scoped, scoped_len}, .salt = id};
+    answer = snmpsec_manager_seal(manager, &sealing);
+}
 static void ask_discovery(void) { answer = snmpsec_manager_ask_discovery(manager, id, &token); }
 static void answered(void) {
     snmpsec_answered found;
@@ -258,6 +270,8 @@ int main(int argc, char **argv) {
     for (int round = 0; round < 3; round++) {
         if (round == 2) list_len = 0;
         measure("request", request, SNMPSEC_STACK);
+        measure("scoped_write", scoped_write, SNMPSEC_STACK);
+        measure("manager_seal", manager_seal, SNMPSEC_STACK);
         measure("ask_discovery", ask_discovery, SNMPSEC_STACK);
         measure("give_up", give_up, SNMPSEC_STACK);
         measure("ask", ask, SNMPSEC_STACK);

@@ -3,7 +3,8 @@
 -- `Done`, `Accesses`: the answer is the number of the result. `Takes`, `Allows`, `WritesNextName`, `May`,
 -- `Counter`, `RespondsTo`, `Notifies`, `TellsPart`, `TellsMessage`, `TellsNumbers`, `ClearsAgent`: what each
 -- export answers and leaves. `Makes`: the answer of `_new`. `Reconfigured`: another configuration.
--- `ReadsBinding`, `Writes`: bindings as octets. `TellsConfiguration`: why a configuration is refused.
+-- `ReadsBinding`, `Writes`: bindings as octets. `Spells`: a ScopedPDU as octets. `TellsConfiguration`: why a
+-- configuration is refused.
 -- `MaxSize`, `RespondsToWithin`, `UnhandledBy`, `RefusesKept`, `CountOf`, `DropsSilently`: those that go with
 -- an agent's answers. `ManagerMaxSize`, `TookAnswer`, `ToldReport`, `HasReport`: those on the answers to a
 -- manager's requests. `IsValueCode`: whether a content fits its tag.
@@ -20,6 +21,7 @@ use Rattle.snmp_outgoing.specs.declared.counter.Counter.TheVariants.{SilentDrops
 use Rattle.snmp_agent.specs.declared.unhandled.Unhandled.{Unhandled}
 use Rattle.snmp_agent.specs.Counts.{count_at, one_more}
 use Rattle.snmp_handles.specs.Bindings.{ReadsAt, WritesBinding}
+use Rattle.snmp_handles.specs.ScopedPdus.{Saying, WritesScoped}
 use Rattle.snmp_handles.specs.Configurations.{TellsConfig}
 use Rattle.snmp_handles.specs.Parts.{part_of, CopiesNothing, CopiesPart, CopiesMessage, AreNumbersOf, TellsMaxSize}
 use Rattle.snmp_incoming.specs.Outcome.{Given}
@@ -154,6 +156,10 @@ ReadsBinding list at arcs arcs_new numbers numbers_new answer = Done
 abbrev pub Writes : List ℕ → ℕ → List ℕ → List ℕ → List ℕ → ℕ → ℕ → ℤ → Type 0
 Writes arcs tag content out out_new written written_new answer = Done
     (WritesBinding arcs tag content out out_new written written_new) answer
+
+abbrev pub Spells : Saying → List ℕ → List ℕ → List ℕ → ℕ → ℕ → ℤ → Type 0
+Spells saying list out out_new written written_new answer = Done
+    (WritesScoped saying list out out_new written written_new) answer
 
 -- whether it is the content of a value with this tag
 abbrev pub IsValueCode : ℕ → List ℕ → ℤ → Type 0

@@ -13,6 +13,7 @@ use Rattle.snmp_handles.specs.Reports.{TakesAnswer, TellsReport}
 use Rattle.snmp_manager.specs.declared.replies.Report.{Report}
 use Rattle.snmp_handles.specs.Managers.{ManagerHeld, Asking, MakesManager, ClearsManager, ManagerTakes, TellsAnswer}
 use Rattle.snmp_handles.specs.Managers.{RequestsHeld, DiscoversHeld, AbsorbsHeld, SavesHeld, TellsPair}
+use Rattle.snmp_handles.specs.Sealings.{Sealing, SealsHeld}
 use Rattle.snmp_c.specs.Calls.{Done, HasNumbers}
 
 -- the value, or -1 where there is none
@@ -40,6 +41,10 @@ Answered old new answer = (new ≡ old)
 abbrev pub Requested : ℕ → Asking → List ℕ → ℕ → ManagerHeld → ManagerHeld → ℤ → Type 0
 Requested now ask list salt old new answer = Done
     (λ told. RequestsHeld old now ask list (to_be_bytes w64 salt) told new) answer
+
+abbrev pub Sealed : Sealing → List ℕ → ℕ → ManagerHeld → ManagerHeld → ℤ → Type 0
+Sealed sealing scoped salt old new answer = Done
+    (λ told. SealsHeld old sealing (to_be_bytes w64 salt) scoped told new) answer
 
 abbrev pub Discovered : ℕ → ManagerHeld → ManagerHeld → ℤ → Type 0
 Discovered id old new answer = Done (λ told. DiscoversHeld old id told new) answer

@@ -28,3 +28,4 @@ pub mod reports;
 mod reports_calls;
 pub mod requests;
 mod requests_calls;
+pub mod scoped;

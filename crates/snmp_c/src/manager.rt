@@ -5,11 +5,13 @@ ghost use Rattle.std.specs.Borrow.{full_share, sem};
 ghost use Rattle.std.specs.Ptr.{lies_at};
 ghost use Rattle.snmp_handles.specs.contracts.manager.ManagerHandle as managers;
 ghost use Rattle.snmp_handles.specs.Managers.{ManagerHeld};
+ghost use Rattle.snmp_c.specs.Devices.{is_set};
 ghost use Rattle.snmp_c.specs.ManagerCalls.{MakesAManager, Clears, ManagerTook, Answered, Requested, Discovered};
 ghost use Rattle.snmp_c.specs.ManagerCalls.{Absorbed, Saved, ToldPair, ManagerPart, ManagerMessage, ManagerNumbers};
+ghost use Rattle.snmp_c.specs.ManagerCalls.{Sealed};
 
 use crate::manager_calls::{
-    absorb, answer, clear, discover, message, numbers, pair, part, request, save, take,
+    absorb, answer, clear, discover, message, numbers, pair, part, request, save, seal, take,
 };
 use snmp_handles::{CallFault, ManagerHandle};
 use snmp_msg::Refusal;
@@ -140,6 +142,54 @@ pub unsafe extern "C" fn proved_manager_request(
         second,
         third,
         list,
+        salt,
+    )
+}
+
+/// Seals a ScopedPDU, one whole SEQUENCE, for this user at the level 1 to 3, with this msgID, msgMaxSize, engine ID,
+/// boots and time, and with the reportableFlag where that isn't 0, and leaves it as the message to be sent. Its
+/// answer isn't waited for. It answers -1 where a number, a length or the ScopedPDU is out of its range, and the
+/// refusals of sending: 7, 8, 16, 14. Then nothing changes.
+#[unsafe(no_mangle)]
+pub unsafe extern "C" fn proved_manager_seal(
+    at: *mut u8,
+    id: u32,
+    max_size: u32,
+    reportable: u32,
+    engine: &[u8],
+    boots: u32,
+    time: u32,
+    user: &[u8],
+    level: u32,
+    scoped: &[u8],
+    salt: u64,
+) -> i32
+    ghost held: { ManagerHeld }
+    requires* { sem 𝓛 (lies_at managers.the_row full_share at held) }
+    ensures* { ∃ₛ (λ (new : ManagerHeld). sem 𝓛
+        (lies_at managers.the_row full_share at new) ∗ ⌜ Sealed
+        (record {
+          id = id;
+          max_size = max_size;
+          reportable = is_set reportable;
+          engine = engine.now;
+          boots = boots;
+          time = time;
+          user = user.now;
+          level = level;
+        }) scoped.now salt held new result ⌝) }
+{
+    seal(
+        &mut *(at as *mut ManagerHandle),
+        id,
+        max_size,
+        reportable,
+        engine,
+        boots,
+        time,
+        user,
+        level,
+        scoped,
         salt,
     )
 }

@@ -1,9 +1,10 @@
 //! What the calls on a manager do, without pointers.
 
+ghost use Rattle.snmp_c.specs.Devices.{is_set};
 ghost use Rattle.snmp_c.specs.ManagerCalls.{Clears, ManagerTook, Answered, Requested, Discovered, Absorbed, Saved};
-ghost use Rattle.snmp_c.specs.ManagerCalls.{ToldPair, ManagerPart, ManagerMessage, ManagerNumbers};
+ghost use Rattle.snmp_c.specs.ManagerCalls.{ToldPair, ManagerPart, ManagerMessage, ManagerNumbers, Sealed};
 
-use snmp_handles::{AskedOf, CallFault, ManagerHandle, Part, answer_code_of, code_of};
+use snmp_handles::{AskedOf, CallFault, ManagerHandle, Part, SealedOf, answer_code_of, code_of};
 
 /// Gives back all memory but the block of the handle.
 pub(crate) fn clear(handle: &mut ManagerHandle) -> i32
@@ -70,6 +71,45 @@ pub(crate) fn request(
         third,
     };
     code_of(handle.request(now, &of, list, salt))
+}
+
+/// Seals a ScopedPDU.
+pub(crate) fn seal(
+    handle: &mut ManagerHandle,
+    id: u32,
+    max_size: u32,
+    reportable: u32,
+    engine: &[u8],
+    boots: u32,
+    time: u32,
+    user: &[u8],
+    level: u32,
+    scoped: &[u8],
+    salt: u64,
+) -> i32
+    ensures { Sealed
+        (record {
+          id = id;
+          max_size = max_size;
+          reportable = is_set reportable;
+          engine = engine.now;
+          boots = boots;
+          time = time;
+          user = user.now;
+          level = level;
+        }) scoped.now salt handle.old handle.new result }
+{
+    let of = SealedOf {
+        id,
+        max_size,
+        reportable: reportable != 0,
+        engine,
+        boots,
+        time,
+        user,
+        level,
+    };
+    code_of(handle.seal(&of, scoped, salt))
 }
 
 /// Writes the request by which an engine is discovered.

@@ -5,6 +5,8 @@ pub mod Managers
 pub mod ManyRequests
 pub mod Reports
 pub mod Asked
+pub mod ScopedPdus
+pub mod Sealings
 pub mod Faults
 pub mod Numbers
 pub mod Bindings

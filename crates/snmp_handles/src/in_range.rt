@@ -77,7 +77,7 @@ impl<'a> NoticeInRange<'a> {
 }
 
 /// Whether the tag is of a PDU.
-fn is_pdu_tag(tag: u32) -> bool
+pub(crate) fn is_pdu_tag(tag: u32) -> bool
     ensures { IsTrue result ↔ IsPduTag tag }
 {
     match u8::try_from(tag) {

@@ -36,6 +36,8 @@ mod many_requests;
 mod numbers;
 mod parts;
 mod reports;
+mod scoped;
+mod sealing;
 mod walks;
 
 pub use agent::{AgentHandle, NoticeTo};
@@ -49,3 +51,5 @@ pub use kept::KeptHandle;
 pub use manager::{AskedOf, ManagerHandle};
 pub use numbers::{counter_of, level_of, unhandled_of, view_of};
 pub use parts::{Part, copied_message, copied_part, max_size_of, numbers_of};
+pub use scoped::{ScopedOf, write_scoped_pdu};
+pub use sealing::SealedOf;

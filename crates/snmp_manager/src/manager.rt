@@ -1,6 +1,7 @@
 //! The manager.
 
-ghost use Rattle.std.specs.Prelude.{◌≡◌, ◌<◌, ◌≤◌, ◌⊎◌, ℕ, pos, List, [], All, length, map, slice_get, Some, Ok, Err};
+ghost use Rattle.std.specs.Prelude.{◌≡◌, ◌+◌, ◌<◌, ◌≤◌, ◌⊎◌, ℕ, pos, List, [], All, length, map, slice_get, Some};
+ghost use Rattle.std.specs.Prelude.{Ok, Err};
 ghost use Rattle.std.specs.Prelude.{IfOk, IfErr, IfSome, IsOk, IsSome, MatchResult, OnErr, OnOk};
 ghost use Rattle.std.specs.Global.{Vec as Octets};
 ghost use Rattle.std.specs.Option.{option_map};
@@ -11,7 +12,9 @@ ghost use Rattle.engine_clock.specs.Windows.{notion_at};
 ghost use Rattle.snmp_ber.specs.declared.level.Level.TheVariants.{NoAuthNoPriv};
 ghost use Rattle.snmp_ber.specs.declared.number.TheConstants.{MAX_INTEGER32};
 ghost use Rattle.usm_core.specs.Verified.{manager};
-ghost use Rattle.usm_core.specs.Sealed.{Seals, IsSealable};
+ghost use Rattle.usm_core.specs.Answers.{seal_answer};
+ghost use Rattle.usm_core.specs.Sealed.{sending, Seals, IsSealable, IsSendable};
+ghost use Rattle.snmp_message.specs.declared.message.TheConstants.{LARGEST};
 ghost use Rattle.snmp_incoming.specs.Answers.{answer_of, IsPlain};
 ghost use Rattle.snmp_msg.specs.Pdu.{IsSpelled};
 ghost use Rattle.snmp_msg.specs.PduTypes.{IsPduTag};
@@ -23,7 +26,7 @@ ghost use Rattle.snmp_manager.specs.Sent.{IsAcceptedByAgents};
 ghost use Rattle.snmp_manager.specs.Known.{IsLatest, datagrams_of};
 ghost use Rattle.snmp_manager.specs.Takes.{Takes, HoldsAuthentic, IsOnceLearned, TakesNoMemory, kept_answer};
 ghost use Rattle.snmp_manager.specs.Runs.{TakesOne, Runs, HasTaken, moments_of, taken_of};
-ghost use Rattle.snmp_message.specs.declared.refusal.Refusal.TheVariants.{OutOfMemory};
+ghost use Rattle.snmp_message.specs.declared.refusal.Refusal.TheVariants.{OutOfMemory, TooLarge};
 ghost use Rattle.snmp_message.specs.declared.refusal.Refusal.{Refusal as Refused};
 ghost use Rattle.snmp_message.specs.Refusals.{IsRefused};
 
@@ -36,7 +39,7 @@ use crate::weighing::{weigh, weigh_kept};
 use engine_clock::{Clocks, EngineId, Mark, Pair};
 use snmp_ber::Level;
 use snmp_incoming::{Kept, Taken};
-use snmp_msg::{PduType, Refusal, RefusedAt, Spelled, is_confirmed};
+use snmp_msg::{Header, PduType, Refusal, RefusedAt, Spelled, is_confirmed};
 use snmp_outgoing::{
     Body, Envelope, Front, spoken_is_accepted, supports, write_body_of, write_plain,
 };
@@ -384,5 +387,30 @@ impl Manager {
             },
         };
         Ok((text, Pending::of(self.alloc, &envelope, &body.front())?))
+    }
+
+    /// A message with any header and any ScopedPDU, as `Users::seal` writes it. No clock is looked at.
+    ///
+    /// The errors are those of `Users::seal`, in its order.
+    pub fn seal(
+        &mut self,
+        header: &Header,
+        engine: &[u8],
+        pair: Pair,
+        user: &[u8],
+        salt: [u8; 8],
+        scoped: &[u8],
+    ) -> Result<Vec<u8>, RefusedAt>
+        requires { IsSendable header.now user.now scoped.now }
+        ensures rows { IfSome (seal_answer result)
+            (Seals self.old.users (sending header.now engine.now pair user.now salt scoped.now)) }
+        ensures memory { IsRefused result OutOfMemory
+            → IsSealable self.old.users (sending header.now engine.now
+            pair user.now salt scoped.now) }
+        ensures short { IsRefused result TooLarge
+            → LARGEST < 150 + length engine.now + length user.now + length scoped.now }
+        ensures same { self.new ≡ self.old }
+    {
+        self.users.seal(header, engine, pair, user, salt, scoped)
     }
 }

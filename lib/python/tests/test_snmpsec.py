@@ -334,6 +334,60 @@ class Exchange(unittest.TestCase):
             self.assertEqual(manager.saved(), many)
 
 
+class Sealed(unittest.TestCase):
+    """ScopedPDUs that are sealed under any header, as no well-behaved manager sends them."""
+
+    HEADER = {"engine": ENGINE, "boots": BOOTS, "time": TIME, "user": b"ann", "level": Level.AUTH_PRIV, "salt": 1, "message_id": 7}
+    LEAST, GREATEST = -(1 << 31), (1 << 31) - 1
+
+    def setUp(self):
+        self.agent, self.manager = Agent(CONFIG, ENGINE, BOOTS, NOW - TIME), Manager(CONFIG)
+        for it in (self.agent, self.manager):
+            self.addCleanup(it.close)
+
+    def scoped(self, **more):
+        return snmpsec.scoped_pdu(**({"pdu": Pdu.GET_BULK, "octets": ASKED, "request_id": -1, "context_engine": ENGINE} | more))
+
+    def sealed(self, scoped, **more):
+        self.manager.seal(scoped, **(self.HEADER | more))
+        return self.manager.message()
+
+    def test_an_agent_reads_what_was_sealed(self):
+        scoped = self.scoped(error_status=self.LEAST, error_index=self.GREATEST)
+        for level in Level:
+            self.assertIsNone(self.agent.take(NOW, self.sealed(scoped, level=level, max_size=484)))
+            self.assertEqual((level, Pdu.GET_BULK, -1, self.LEAST, self.GREATEST, 7), self.agent.info())
+            self.assertEqual((484, ASKED), (self.agent.max_size(), self.agent.part(Part.BINDINGS)))
+            self.assertIsNone(self.manager.clock(ENGINE))
+        self.agent.respond(NOW, HELLO, 2)
+        self.assertIsNone(self.manager.take(NOW, self.agent.message()))
+        self.assertEqual((-1, 7), (self.manager.info().request_id, self.manager.info().message_id))
+        self.assertIsNone(self.manager.reply())
+
+    def test_it_is_reported_where_it_asks_for_that(self):
+        for is_reportable in (False, True):
+            late = self.sealed(self.scoped(), time=TIME + 151, is_reportable=is_reportable)
+            self.assertIs(Refusal.NOT_IN_WINDOW, self.agent.take(NOW, late))
+            self.assertEqual(is_reportable, self.agent.message() is not None)
+
+    def test_what_is_out_of_range(self):
+        scoped = self.scoped()
+        for more in ({"max_size": 483}, {"max_size": 1 << 31}, {"message_id": 1 << 31}, {"boots": 1 << 31}, {"time": 1 << 31}, {"level": 4},
+                     {"user": bytes(33)}, {"time": -1}):
+            self.assertRaises(snmpsec.BadArgument, self.sealed, scoped, **more)
+        self.assertRaises(snmpsec.BadArgument, self.sealed, scoped[:-1])
+        for more in ({"request_id": 1 << 31}, {"error_status": self.LEAST - 1}, {"pdu": 0xA4}):
+            self.assertRaises(snmpsec.BadArgument, self.scoped, **more)
+        self.assertRaises(snmpsec.BadBindings, self.scoped, octets=b"junk")
+        for raised in (lambda: self.scoped(context_name=bytes(snmpsec.LARGEST)), lambda: self.sealed(scoped, engine=bytes(snmpsec.LARGEST))):
+            with self.assertRaises(snmpsec.Refused) as refused:
+                raised()
+            self.assertIs(Refusal.TOO_LARGE, refused.exception.refusal)
+        with self.assertRaises(snmpsec.Refused) as refused:
+            self.sealed(scoped, user=b"eve")
+        self.assertIs(Refusal.UNKNOWN_USER, refused.exception.refusal)
+
+
 class Faults(unittest.TestCase):
     def test_each_has_its_name(self):
         with self.assertRaises(snmpsec.BadConfiguration) as raised:

@@ -1,8 +1,12 @@
-//! Variable bindings, as octets.
+//! Variable bindings and scopedPDUs, as octets.
 
-use crate::calls::{snmpsec_binding_read, snmpsec_binding_write, snmpsec_value_is, BindingRead};
+use crate::calls::{
+    self, snmpsec_binding_read, snmpsec_binding_write, snmpsec_scoped_write, snmpsec_value_is,
+    BindingRead,
+};
 use crate::fault::{done, Error};
 use crate::held::copied;
+use crate::words::Pdu;
 
 /// A variable binding of a list.
 #[derive(Clone, Debug, PartialEq, Eq)]
@@ -26,6 +30,34 @@ pub fn binding(arcs: &[u32], tag: u8, content: &[u8]) -> Result<Vec<u8>, Error> 
             written,
         )
     })
+}
+
+/// What a scopedPDU says. Its numbers may be negative.
+#[derive(Clone, Copy, Debug)]
+pub struct ScopedPdu<'a> {
+    pub pdu: Pdu,
+    pub request_id: i32,
+    /// Or non-repeaters.
+    pub error_status: i32,
+    /// Or max-repetitions.
+    pub error_index: i32,
+    pub context_engine: &'a [u8],
+    pub context_name: &'a [u8],
+    pub bindings: &'a [u8],
+}
+
+/// A scopedPDU, as octets, which [`Manager::seal`](crate::Manager::seal) seals.
+pub fn scoped_pdu(of: &ScopedPdu<'_>) -> Result<Vec<u8>, Error> {
+    let scoped = calls::Scoped {
+        pdu: of.pdu as u32,
+        request_id: of.request_id,
+        error_status: of.error_status,
+        error_index: of.error_index,
+        context_engine: of.context_engine.into(),
+        context_name: of.context_name.into(),
+        list: of.bindings.into(),
+    };
+    copied(|out, len, written| unsafe { snmpsec_scoped_write(&scoped, out, len, written) })
 }
 
 /// The binding at a place of a list, which then is the place behind it.

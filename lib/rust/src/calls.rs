@@ -174,6 +174,31 @@ pub struct Request<'a> {
 }
 
 #[repr(C)]
+pub struct Sealing<'a> {
+    pub message_id: u32,
+    pub max_size: u32,
+    pub is_reportable: bool,
+    pub level: u32,
+    pub engine: Octets<'a>,
+    pub user: Octets<'a>,
+    pub boots: u32,
+    pub time: u32,
+    pub scoped: Octets<'a>,
+    pub salt: u64,
+}
+
+#[repr(C)]
+pub struct Scoped<'a> {
+    pub pdu: u32,
+    pub request_id: i32,
+    pub error_status: i32,
+    pub error_index: i32,
+    pub context_engine: Octets<'a>,
+    pub context_name: Octets<'a>,
+    pub list: Octets<'a>,
+}
+
+#[repr(C)]
 pub struct BindingRead {
     pub arcs: [u32; 128],
     pub arcs_len: usize,
@@ -412,6 +437,7 @@ extern "C" {
         engine_len: usize,
         out: *mut Clock,
     ) -> i32;
+    pub fn snmpsec_manager_seal(manager: *mut Opaque, sealing: *const Sealing<'_>) -> i32;
     pub fn snmpsec_binding_read(
         list: *const u8,
         list_len: usize,
@@ -424,6 +450,12 @@ extern "C" {
         tag: u8,
         content: *const u8,
         content_len: usize,
+        out: *mut u8,
+        len: usize,
+        written: *mut usize,
+    ) -> i32;
+    pub fn snmpsec_scoped_write(
+        scoped: *const Scoped<'_>,
         out: *mut u8,
         len: usize,
         written: *mut usize,

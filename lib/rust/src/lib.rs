@@ -131,7 +131,7 @@ mod manager;
 mod words;
 
 pub use agent::{status_of, Agent, Counters, Counts, Notification};
-pub use bindings::{binding, bindings, value_is, Binding};
+pub use bindings::{binding, bindings, scoped_pdu, value_is, Binding, ScopedPdu};
 pub use config::{config_fault, ConfigFault, ConfigReason, ConfigTable};
 pub use device::{Device, Known, Step};
 pub use fault::{Error, Refusal};
@@ -142,7 +142,7 @@ pub use gate::{
 };
 pub use kept::{Kept, Response};
 pub use keys::{localise, mac, open, password_key, seal, wipe, Protocol};
-pub use manager::{Answer, Clock, Manager, Reply, Report, Request};
+pub use manager::{Answer, Clock, Manager, Reply, Report, Request, Sealing};
 pub use words::{Access, Info, Level, Part, Pdu, Status, Unhandled, View};
 
 /// The version of the library that is loaded.

@@ -5,8 +5,8 @@ use crate::calls::{
     snmpsec_manager_ask_discovery, snmpsec_manager_clock, snmpsec_manager_discover,
     snmpsec_manager_free, snmpsec_manager_give_up, snmpsec_manager_info, snmpsec_manager_max_size,
     snmpsec_manager_message, snmpsec_manager_new, snmpsec_manager_part, snmpsec_manager_reply,
-    snmpsec_manager_report, snmpsec_manager_request, snmpsec_manager_save, snmpsec_manager_take,
-    snmpsec_manager_take_reply,
+    snmpsec_manager_report, snmpsec_manager_request, snmpsec_manager_save, snmpsec_manager_seal,
+    snmpsec_manager_take, snmpsec_manager_take_reply,
 };
 use crate::fault::{done, Error};
 use crate::held::{copied, Calls, Held};
@@ -115,6 +115,21 @@ impl<'a> Request<'a> {
     }
 }
 
+/// How a scopedPDU is sealed, and for whom: for programs that test agents, which send what no well-behaved manager sends.
+#[derive(Clone, Copy, Debug)]
+pub struct Sealing<'a> {
+    pub message_id: u32,
+    /// How many octets the answer may have, 484 to 2147483647 (msgMaxSize).
+    pub max_size: u32,
+    /// A message that is refused is reported.
+    pub is_reportable: bool,
+    pub level: Level,
+    pub engine: &'a [u8],
+    pub user: &'a [u8],
+    /// What the message says of the engine's clock.
+    pub clock: Clock,
+}
+
 impl Manager {
     /// A manager with the users of a configuration, that begins with the clocks of a saved text, where the marks of version 1
     /// were seen at this moment in seconds.
@@ -193,6 +208,24 @@ impl Manager {
     pub fn request(&mut self, now: u64, of: &Request<'_>, salt: u64) -> Result<(), Error> {
         let request = of.to_call(salt);
         done(unsafe { snmpsec_manager_request(self.held.at(), now, &request) })
+    }
+
+    /// Seals a scopedPDU, which [`scoped_pdu`](crate::scoped_pdu) writes, as the message. No answer to it is waited for, and the
+    /// clocks stay.
+    pub fn seal(&mut self, of: &Sealing<'_>, scoped: &[u8], salt: u64) -> Result<(), Error> {
+        let sealing = calls::Sealing {
+            message_id: of.message_id,
+            max_size: of.max_size,
+            is_reportable: of.is_reportable,
+            level: of.level as u32,
+            engine: of.engine.into(),
+            user: of.user.into(),
+            boots: of.clock.boots,
+            time: of.clock.time,
+            scoped: scoped.into(),
+            salt,
+        };
+        done(unsafe { snmpsec_manager_seal(self.held.at(), &sealing) })
     }
 
     /// Writes a request that waits for its answer beside all others that were asked, and returns its token. The first of all

@@ -4,8 +4,8 @@ mod common;
 
 use common::{file, ENGINE};
 use snmpsec::{
-    binding, bindings, Agent, Clock, Error, Level, Manager, Notification, Part, Pdu, Refusal,
-    Reply, Request, LARGEST, NO_CLOCKS,
+    binding, bindings, scoped_pdu, Agent, Clock, Error, Level, Manager, Notification, Part, Pdu,
+    Refusal, Reply, Request, ScopedPdu, Sealing, LARGEST, NO_CLOCKS,
 };
 
 const NOW: u64 = 1000;
@@ -176,4 +176,97 @@ fn a_trap_is_taken() {
             level != Level::NoAuthNoPriv
         );
     }
+}
+
+const SEALING: Sealing<'static> = Sealing {
+    message_id: 7,
+    max_size: 484,
+    is_reportable: false,
+    level: Level::AuthPriv,
+    engine: &ENGINE,
+    user: b"ann",
+    clock: Clock {
+        boots: BOOTS,
+        time: TIME,
+    },
+};
+
+const SCOPED: ScopedPdu<'static> = ScopedPdu {
+    pdu: Pdu::GetBulkRequest,
+    request_id: -1,
+    error_status: i32::MIN,
+    error_index: i32::MAX,
+    context_engine: &ENGINE,
+    context_name: b"",
+    bindings: b"",
+};
+
+#[test]
+fn a_scoped_pdu_is_sealed_under_any_header() {
+    let mut both = both(NO_CLOCKS);
+    let scoped = scoped_pdu(&SCOPED).unwrap();
+    both.manager.seal(&SEALING, &scoped, 1).unwrap();
+    assert_eq!(both.agent_takes(), Ok(()));
+    let info = both.agent.info().unwrap();
+    assert_eq!(
+        (info.request_id, info.error_status, info.error_index),
+        (-1, i32::MIN, i32::MAX)
+    );
+    assert_eq!((info.level, info.message_id), (Level::AuthPriv, 7));
+    assert_eq!(both.agent.max_size(), Ok(484));
+    assert_eq!(both.manager.clock(&ENGINE), Err(Error::NothingTaken));
+    both.agent.respond(NOW, 0, 0, b"", 2).unwrap();
+    assert_eq!(both.manager_takes(), Err(Error::NothingTaken));
+    assert_eq!(both.manager.info().unwrap().request_id, -1);
+}
+
+#[test]
+fn what_is_sealed_is_reported_where_it_asks_for_that() {
+    let mut both = both(NO_CLOCKS);
+    let scoped = scoped_pdu(&SCOPED).unwrap();
+    for is_reportable in [false, true] {
+        let late = Sealing {
+            is_reportable,
+            clock: Clock {
+                boots: BOOTS,
+                time: TIME + 151,
+            },
+            ..SEALING
+        };
+        both.manager.seal(&late, &scoped, 1).unwrap();
+        assert_eq!(
+            both.agent_takes(),
+            Err(Error::Refused(Refusal::NotInWindow))
+        );
+        assert_eq!(both.agent.message().is_ok(), is_reportable);
+    }
+}
+
+#[test]
+fn what_cant_be_sealed_is_refused() {
+    let mut manager = both(NO_CLOCKS).manager;
+    let scoped = scoped_pdu(&SCOPED).unwrap();
+    let small = Sealing {
+        max_size: 483,
+        ..SEALING
+    };
+    let nobody = Sealing {
+        user: b"eve",
+        ..SEALING
+    };
+    let junk = ScopedPdu {
+        bindings: b"junk",
+        ..SCOPED
+    };
+    assert_eq!(manager.seal(&small, &scoped, 1), Err(Error::BadArgument));
+    assert_eq!(
+        manager.seal(&SEALING, &scoped[1..], 1),
+        Err(Error::BadArgument)
+    );
+    assert_eq!(
+        manager.seal(&nobody, &scoped, 1),
+        Err(Error::Refused(Refusal::UnknownUser))
+    );
+    assert_eq!(scoped_pdu(&junk), Err(Error::BadBindings));
+    assert_eq!(manager.message(), Err(Error::NothingTaken));
 }

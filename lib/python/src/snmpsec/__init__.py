@@ -50,7 +50,7 @@ __all__ = ["Access", "Agent", "Answered", "AuthProtocol", "BadArgument", "BadBin
            "GateDevice", "GateEvent", "GateReceiver", "GateSent", "Info", "InformMessage", "Kept", "Known", "LARGEST", "Level", "Manager", "Misfit", "NO_CLOCKS",
            "NotAsked", "NothingTaken", "Part", "Pdu", "ReceiverTaken", "Refusal", "Refused", "Reply", "Report", "Status", "Step", "TooManyRequests", "TrapTaken",
            "Unhandled", "View", "binding", "bindings", "config_fault", "datagram_user", "gate_fault", "localise", "mac", "open_text",
-           "password_key", "seal_text", "status_of", "value_is", "version"]
+           "password_key", "scoped_pdu", "seal_text", "status_of", "value_is", "version"]
 
 Buffer = Union[bytes, bytearray, memoryview]
 Path = Union[str, "os.PathLike[str]"]
@@ -427,6 +427,11 @@ def _ranged(value: int, bits: int = 32) -> int:
     return value
 
 
+def _signed(value: int) -> int:
+    """The same, of a number of 32 bits with sign."""
+    return _ranged(operator.index(value) + (1 << 31)) - (1 << 31)
+
+
 def _arcs(name: Sequence[int]) -> Tuple[Any, int]:
     return (ctypes.c_uint32 * len(name))(*map(_ranged, name)), len(name)
 
@@ -462,6 +467,14 @@ def config_fault(config: Buffer) -> Optional[ConfigFault]:
 def binding(name: Sequence[int], tag: int, content: Buffer = b"") -> bytes:
     """A variable binding, as octets."""
     return _copied(CALLS["binding_write"], *_arcs(name), _ranged(tag, 8), *_octets(content))
+
+
+def scoped_pdu(pdu: Pdu, octets: Buffer, *, request_id: int, error_status: int = 0, error_index: int = 0, context_engine: Buffer = b"",
+               context_name: Buffer = b"") -> bytes:
+    """A scopedPDU of these bindings, as octets: what `Manager.seal` seals. Its numbers have 32 bits with sign, so that they may be negative."""
+    said = _library.Scoped(pdu, _signed(request_id), _signed(error_status), _signed(error_index), _slice(context_engine), _slice(context_name),
+                           _slice(octets))
+    return _copied(CALLS["scoped_write"], ctypes.byref(said))
 
 
 def bindings(octets: Buffer) -> list[Binding]:
@@ -859,6 +872,13 @@ class Manager(_Held):
                                  _ranged(error_index), level, _slice(engine), _slice(user),
                                  _slice(engine if context_engine is None else context_engine), _slice(context_name), _slice(octets), _ranged(salt, 64))
         _done(self._call("request", _ranged(now, 64), ctypes.byref(asked)))
+
+    def seal(self, scoped: Buffer, *, engine: Buffer, boots: int, time: int, user: Buffer, level: Level, salt: int, message_id: int,
+             max_size: int = LARGEST, is_reportable: bool = True) -> None:
+        """Seals a scopedPDU under any header, as the message, for programs that test agents. No answer to it is waited for, and the clocks stay."""
+        sealing = _library.Sealing(_ranged(message_id), _ranged(max_size), is_reportable, level, _slice(engine), _slice(user), _ranged(boots),
+                                   _ranged(time), _slice(scoped), _ranged(salt, 64))
+        _done(self._call("seal", ctypes.byref(sealing)))
 
     def ask(self, now: int, pdu: Pdu, *, engine: Buffer, user: Buffer, level: Level, octets: Buffer, salt: int, message_id: int,
             request_id: int, error_status: int = 0, error_index: int = 0, context_engine: Optional[Buffer] = None,

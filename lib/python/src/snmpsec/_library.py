@@ -92,6 +92,16 @@ class Request(ctypes.Structure):
                 ("salt", c_uint64)]
 
 
+class Sealing(ctypes.Structure):
+    _fields_ = [("message_id", c_uint32), ("max_size", c_uint32), ("is_reportable", c_bool), ("level", c_uint), ("engine", Octets), ("user", Octets),
+                ("boots", c_uint32), ("time", c_uint32), ("scoped", Octets), ("salt", c_uint64)]
+
+
+class Scoped(ctypes.Structure):
+    _fields_ = [("pdu", c_uint), *((name, ctypes.c_int32) for name in ("request_id", "error_status", "error_index")), ("context_engine", Octets),
+                ("context_name", Octets), ("list", Octets)]
+
+
 class BindingRead(ctypes.Structure):
     _fields_ = [("arcs", c_uint32 * 128), ("arcs_len", c_size_t), ("tag", c_uint8), ("content", c_void_p), ("content_len", c_size_t)]
 
@@ -150,8 +160,10 @@ SIGNATURES = {
     "manager_absorb": (c_int, [c_void_p] + _slice + [c_uint64]),
     "manager_save": (c_int, [c_void_p] + _out),
     "manager_clock": (c_int, [c_void_p] + _slice + [POINTER(Clock)]),
+    "manager_seal": (c_int, [c_void_p, POINTER(Sealing)]),
     "binding_read": (c_int, _slice + [POINTER(c_size_t), POINTER(BindingRead)]),
     "binding_write": (c_int, _arcs + [c_uint8] + _slice + _out),
+    "scoped_write": (c_int, [POINTER(Scoped)] + _out),
     "value_is": (c_bool, [c_uint8] + _slice),
     "password_key": (c_int, [c_uint] + _slice + _out),
     "localise": (c_int, [c_uint] + _slice * 2 + _out),
