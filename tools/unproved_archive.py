@@ -5,7 +5,7 @@ import shutil
 
 PREFIX = "proved_"  # of the name of each export
 EXPORT = re.compile(r'^#\[unsafe\(no_mangle\)\]\npub (?:unsafe )?extern "C" fn (' + PREFIX + r'\w+)\((.*?)\)(?: -> \w+)?\n', re.MULTILINE | re.DOTALL)
-SLICE, PLACE, NUMBER = re.compile(r"&(mut )?\[(\w+)\]"), re.compile(r"&mut (\*mut u8|\w+)"), re.compile(r"u32|u64|usize")
+SLICE, PLACE, NUMBER = re.compile(r"&(mut )?\[(\w+)\]"), re.compile(r"&mut (\*mut u8|\w+)"), re.compile(r"[iu](?:32|64)|usize")
 GIVEN = {"Global": "alloc", "*mut u8": "at"}
 HEAD = """
 use std::alloc::Global;
