@@ -4,10 +4,11 @@
 # It wants a C compiler; README.md has the line that installs all else that it can use. What isn't installed is told by a line that begins
 # with `skipped:` and left out. The C is built twice, the second time with sanitizers, and those programs are run where they can be built. It
 # prints what differs from what is expected, and at the end how many checks passed; the status is 1 if any failed. Each part is a script in
-# tests/, and all are run where none is named: six groups of them side by side, each with 25 ports of its own from PORT (16161) on, and what a
-# group printed when it has ended. Parts that are named are run one after another, over what was built before. With NO_LIBRARY the archive is taken
-# as it lies there. SNMPSEC_ARCHIVE is another archive, and SNMPSEC_PROGRAM another program, as tools/unproved compiles them; nothing is installed
-# or packaged of an archive that isn't proved.
+# tests/. Where none is named all are run in six groups, as many side by side as there are processors, each with 25 ports of its own from PORT
+# (16161) on; what a group printed is printed when it has ended. Parts that are named run one after another, over what was built before.
+#
+# With NO_LIBRARY the archive is taken as it lies there. SNMPSEC_ARCHIVE is another archive, and SNMPSEC_PROGRAM another program, as
+# tools/unproved compiles them; nothing is installed or packaged of an archive that isn't proved.
 here=$(cd "$(dirname "$0")" && pwd)
 export OUT=${OUT:-$here/out}
 work=$(mktemp -d)
@@ -113,15 +114,16 @@ build() {
     echo "skipped: the C compiler has no sanitizers"
 }
 
-# Runs each group, prints what it printed, and adds up its last line.
+# Runs the groups, as many at once as there are processors, prints what each printed, and adds up its last line.
 side_by_side() {
     local parts runs=() n=0 counts
     while read -r parts; do
+        while [ "$(jobs -rp | wc -l)" -ge "$(nproc)" ]; do wait -n; done
         bash "$here/test.sh" $((port + 25 * n)) $parts > "$work/group$n" 2>&1 &
         runs+=($!)
+        pids+=($!)
         n=$((n + 1))
     done <<< "$groups"
-    pids+=("${runs[@]}")
     for n in "${!runs[@]}"; do
         wait "${runs[n]}"
         head -n -1 "$work/group$n"
