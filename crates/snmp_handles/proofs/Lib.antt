@@ -2,3 +2,5 @@ pub mod Told
 pub mod Helds
 pub mod NextNames
 pub mod ManyAsks
+pub mod ScopedLengths
+pub mod Sequences
