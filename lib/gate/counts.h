@@ -21,8 +21,8 @@ struct counts {
     uint64_t refused[19];
     /* answers of devices by their error-status; the last is of those that have no name */
     uint64_t statuses[STATUSES + 1];
-    /* answers of devices that don't fit what was asked, by why */
-    uint64_t misfits[MISFITS];
+    /* answers of devices that don't fit what was asked, by why; and bindings of their answers that the user may not read */
+    uint64_t misfits[MISFITS], hidden_bindings;
     /* Responses to clients, by their error-status, and Reports on requests; and requests that wanted more rounds than they may have */
     uint64_t responses[STATUSES + 1], request_reports, rounds_used_up;
     uint64_t reports, unsent, unlogged;

@@ -187,6 +187,7 @@ static void note_answer(struct gateway *gateway, uint64_t now, struct device *de
     struct pdu pdu;
     if (snmpsec_gate_numbers(gateway->gate, &info) || !pdu_of(datagram, len, &pdu)) return;
     gateway->counts.statuses[pdu.status < STATUSES ? pdu.status : STATUSES]++;
+    gateway->counts.hidden_bindings += info.hidden;
     waiting_answers(info.request, &pdu, info.misfit == SNMPSEC_MISFIT_NONE);
     const struct waiting *request = waiting_of(info.request);
     if (info.misfit && info.misfit < MISFITS) {

@@ -96,10 +96,11 @@ test_counts_told() {
     counted "what didn't fit" 'snmpsec_gate_misfits_total{misfit="other_name"} 1'
     counted "and what had no value" 'snmpsec_gate_misfits_total{misfit="no_value"} 1'
     counted "what took too many rounds" 'snmpsec_gate_rounds_used_up_total 1'
+    counted "and a hidden variable in each of them" 'snmpsec_gate_hidden_bindings_total 64'
     counted "which device that was" 'snmpsec_gate_device_total{device="pdu",event="unfit"} 5'
     counted "one without a name" 'snmpsec_gate_answers_total{error_status="other"} 1'
     counted "a label with quotes" 'snmpsec_gate_device_total{device="a\\x20\"b\\x5cc",event="given_up"} 1'
-    check "each sample is one of Prometheus" "" "$(grep -v -E '^(# TYPE [a-z_]+ (counter|gauge)|[a-z_]+(\{[a-z_]+="([^"\\]|\\.)*"(,[a-z_]+="([^"\\]|\\.)*")*\})? [0-9]+)$' "$counts")"
+    check "each sample is one of Prometheus" "" "$(grep -v -E '^(# HELP [a-z_]+ .+|# TYPE [a-z_]+ (counter|gauge)|[a-z_]+(\{[a-z_]+="([^"\\]|\\.)*"(,[a-z_]+="([^"\\]|\\.)*")*\})? [0-9]+)$' "$counts")"
     kill -HUP "$gate"
     tells "the file is read anew" 'is read anew$'
     rm -f "$counts"

@@ -17,6 +17,7 @@ use Rattle.vacm_core.specs.declared.rows.AccessRow.{AccessRow}
 use Rattle.snmp_message.specs.declared.refusal.Refusal.TheVariants.{OutOfMemory}
 use Rattle.snmp_agent.specs.Agent.{AgentState}
 use Rattle.snmp_gate.specs.Fits.{IsFitTold}
+use Rattle.snmp_gate.specs.Hidden.{IsHiddenTold}
 use Rattle.snmp_gate.specs.History.{Happening}
 use Rattle.snmp_gate.specs.Waiting.{ClientHappens, DeviceHappens, Fresh, GateStands, IsAsBefore, SendHappens, fresh}
 use Rattle.snmp_gate.specs.declared.devices.Device.{Device}
@@ -36,7 +37,7 @@ use Rattle.snmpsec_gate_config.specs.declared.settings.ReceiverSettings.{Receive
 use Rattle.snmp_handles.specs.Agents.{begins, no_rows}
 use Rattle.snmp_handles.specs.declared.fault.CallFault.{CallFault}
 use Rattle.snmp_handles.specs.declared.fault.CallFault.TheVariants.{Refused, BadArgument, BadConfiguration}
-use Rattle.gate_handles.specs.Notes.{note_of, note_to}
+use Rattle.gate_handles.specs.Notes.{note_to}
 use Rattle.gate_handles.specs.declared.note.GateNote.{GateNote}
 use Rattle.gate_handles.specs.declared.note.GateNote.TheVariants as note
 use Rattle.gate_handles.specs.declared.making.TheConstants.{NAMES, JOINED, GATHERED}
@@ -219,8 +220,8 @@ TakesClient old now from datagram told new = KeepsSaid old new
 -- ---- what comes from a device
 
 abbrev pub TellsDevice : DeviceTaken → Result GateEvent CallFault → GateHeld → Type 0
-TellsDevice (device.Answers number fault) told new = (told ≡ Ok event.Answers) × (new.request ≡ number)
-    × Leaves new None None (note_of fault)
+TellsDevice (device.Answers number fault hidden) told new = (told ≡ Ok event.Answers) × (new.request ≡ number)
+    × Leaves new None None (note.Answer fault hidden)
 TellsDevice device.NotWaitedFor told new = (told ≡ Ok event.NotWaitedFor) × IsQuiet new
 TellsDevice device.Unreadable told new = (told ≡ Ok event.Unreadable) × IsQuiet new
 
@@ -229,6 +230,7 @@ pub record TookDevice (old : GateHeld) (now number : ℕ) (datagram : List ℕ) 
   pub taken : DeviceTaken
   pub tells : TellsDevice taken told new
   pub fits : IsFitTold old.gate number datagram taken
+  pub hidden : IsHiddenTold old.gate number datagram taken
   pub happens : (since : ℕ) (before : List Happening) → since ≤ now → GateStands since before old.gate
       → DeviceHappens old.gate now before number datagram taken new.gate
 

@@ -383,9 +383,13 @@ impl GateHandle {
         ensures gate { self.new.gate ≡ self.old.gate }
     {
         match taken {
-            DeviceTaken::Answers { number, fault } => {
+            DeviceTaken::Answers {
+                number,
+                fault,
+                hidden,
+            } => {
                 self.request = number;
-                self.note = GateNote::of_answer(fault);
+                self.note = GateNote::Answer(fault, hidden);
                 GateEvent::Answers
             }
             DeviceTaken::NotWaitedFor => GateEvent::NotWaitedFor,
@@ -528,14 +532,15 @@ impl GateHandle {
     /// Returns the number of the request that the last call was about, that of the device, and how many requests
     /// wait. Behind these stands what the last call told, and 0 for what it didn't: of a Response that goes to a
     /// client error-status and error-index; 1 for a Report that goes to one; and of a device's answer why its bindings
-    /// don't answer what it was asked, and the number of the first such binding, counted from 1.
+    /// don't answer what it was asked, the number of the first such binding, counted from 1, and how many of its
+    /// bindings the request's message may not see.
     ///
     /// Why: 1 it has too few bindings, 2 too many, 3 one of another name, 4 one of a name that isn't after the one
     /// asked, 5 one without a value, 6 one with a value behind endOfMibView.
-    pub fn numbers(&self) -> [u64; 8]
+    pub fn numbers(&self) -> [u64; 9]
         ensures { result ≡ numbers_of self.now }
     {
-        let [status, index, report, misfit, binding] = self.note.numbers();
+        let [status, index, report, misfit, binding, hidden] = self.note.numbers();
         let (device, waiting) = (self.device as u64, self.gate.waiting() as u64);
         [
             self.request,
@@ -546,6 +551,7 @@ impl GateHandle {
             report,
             misfit,
             binding,
+            hidden,
         ]
     }
 

@@ -2,7 +2,7 @@
 
 ghost use Rattle.std.specs.Prelude.{◌≡◌};
 ghost use Rattle.gate_handles.specs.Notes.{binding_number, fault_numbers, misfit_number, natural, note_numbers};
-ghost use Rattle.gate_handles.specs.Notes.{note_of, note_to};
+ghost use Rattle.gate_handles.specs.Notes.{note_to};
 
 use snmp_gate::ResponseStatus;
 use snmp_walk::{AnswerFault, Misfit};
@@ -15,8 +15,9 @@ pub(crate) enum GateNote {
     Response(ResponseStatus),
     /// The datagram to the client is a Report.
     Report,
-    /// The bindings of the device's answer don't answer what it was asked.
-    Unfit(AnswerFault),
+    /// A device's answer: why its bindings don't answer what it was asked, if they don't, and how many of them are
+    /// hidden.
+    Answer(Option<AnswerFault>, usize),
 }
 
 impl GateNote {
@@ -30,28 +31,18 @@ impl GateNote {
         }
     }
 
-    /// Returns what a device's answer is: one that fits, or doesn't for this reason.
-    pub(crate) fn of_answer(fault: Option<AnswerFault>) -> GateNote
-        ensures { result ≡ note_of fault }
-    {
-        match fault {
-            Some(fault) => GateNote::Unfit(fault),
-            None => GateNote::Nothing,
-        }
-    }
-
-    /// Returns error-status and error-index of the Response, 1 for a Report, the number of what doesn't fit, and that
-    /// of the binding. The others are 0.
-    pub(crate) fn numbers(self) -> [u64; 5]
+    /// Returns error-status and error-index of the Response, 1 for a Report, the number of what doesn't fit, that of
+    /// the binding, and how many bindings are hidden. The others are 0.
+    pub(crate) fn numbers(self) -> [u64; 6]
         ensures { result ≡ note_numbers self }
     {
         match self {
-            GateNote::Nothing => [0, 0, 0, 0, 0],
-            GateNote::Response(says) => [natural(says.status), natural(says.index), 0, 0, 0],
-            GateNote::Report => [0, 0, 1, 0, 0],
-            GateNote::Unfit(fault) => {
+            GateNote::Nothing => [0, 0, 0, 0, 0, 0],
+            GateNote::Response(says) => [natural(says.status), natural(says.index), 0, 0, 0, 0],
+            GateNote::Report => [0, 0, 1, 0, 0, 0],
+            GateNote::Answer(fault, hidden) => {
                 let (misfit, binding) = fault_numbers(fault);
-                [0, 0, 0, misfit, binding]
+                [0, 0, 0, misfit, binding, hidden as u64]
             }
         }
     }
@@ -86,13 +77,16 @@ fn misfit_number(misfit: Misfit) -> u64
     }
 }
 
-/// Returns the number of what doesn't fit, and that of the binding.
-fn fault_numbers(fault: AnswerFault) -> (u64, u64)
+/// Returns the number of what doesn't fit, and that of the binding. If all fits, both are 0.
+fn fault_numbers(fault: Option<AnswerFault>) -> (u64, u64)
     ensures { result ≡ fault_numbers fault }
 {
     match fault {
-        AnswerFault::TooFew => (1, 0),
-        AnswerFault::TooMany => (2, 0),
-        AnswerFault::AtBinding(place, misfit) => (misfit_number(misfit), binding_number(place)),
+        None => (0, 0),
+        Some(AnswerFault::TooFew) => (1, 0),
+        Some(AnswerFault::TooMany) => (2, 0),
+        Some(AnswerFault::AtBinding(place, misfit)) => {
+            (misfit_number(misfit), binding_number(place))
+        }
     }
 }

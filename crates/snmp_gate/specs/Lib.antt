@@ -22,6 +22,7 @@ pub mod History
 pub mod Lawful
 pub mod Taking
 pub mod Fits
+pub mod Hidden
 pub mod Waiting
 pub mod Sending
 pub mod Beginning

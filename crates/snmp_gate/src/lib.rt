@@ -264,6 +264,7 @@ mod client_message;
 mod device_answer;
 mod devices;
 mod gate;
+mod hidden;
 mod laws;
 mod limits;
 mod named_task;

@@ -99,10 +99,12 @@ fn misfit_of(info: &calls::GateInfo) -> Option<Misfit> {
 /// What becomes of a device's datagram.
 #[derive(Clone, Copy, Debug, PartialEq, Eq)]
 pub enum DeviceTaken {
-    /// It is the answer to what the device was asked for this request; and why it doesn't fit, if it has no error and doesn't.
+    /// It is the answer to what the device was asked for this request; why it doesn't fit, if it has no error and doesn't; and how many
+    /// of its bindings are hidden from the request's user: their names aren't in the read view. Of an answer to a Set that is 0.
     Answers {
         request: u64,
         misfit: Option<Misfit>,
+        hidden: u64,
     },
     /// Nothing waits for it.
     NotWaitedFor,
@@ -294,6 +296,7 @@ impl Gate {
                 DeviceTaken::Answers {
                     request: info.request,
                     misfit: misfit_of(&info),
+                    hidden: info.hidden,
                 }
             }
             it if it == Event::GateNotWaitedFor as u32 => DeviceTaken::NotWaitedFor,

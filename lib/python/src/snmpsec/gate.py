@@ -60,11 +60,12 @@ class Misfit(IntEnum):
 
 class GateAnswer(NamedTuple):
     """A device's answer to what it was asked for a request: why it doesn't fit, if it has no error and doesn't, and the number of its binding from 1, or
-    None."""
+    None; and how many of its bindings are hidden from the request's user, whose read view doesn't have their names: 0 for an answer to a Set."""
 
     request: int
     misfit: Optional[Misfit]
     binding: Optional[int]
+    hidden: int
 
 
 class GateSent(NamedTuple):
@@ -175,7 +176,7 @@ class Gate(_Counting):
     def answer(self) -> GateAnswer:
         """What the answer is that the last call took, where that was ANSWERS."""
         info = self._numbers()
-        return GateAnswer(info.request, Misfit(info.misfit) if info.misfit else None, info.binding or None)
+        return GateAnswer(info.request, Misfit(info.misfit) if info.misfit else None, info.binding or None, info.hidden)
 
     def next(self, now: int, salt: int, ask_id: int) -> Optional[GateSent]:
         """Does the first thing that is due, or None. It is called until then, each time with another salt and ask_id."""
