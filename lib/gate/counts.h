@@ -14,9 +14,13 @@ struct device_counts { uint64_t asked, asked_again, answered, unfit, given_up, n
 enum { MISFITS = SNMPSEC_MISFIT_AFTER_END + 1 };
 
 enum { INFORM_MESSAGES = SNMPSEC_INFORM_ITSELF + 1 };
+/* the tags of PDUs, from that of a GetRequest to that of a Report */
+enum { PDUS = SNMPSEC_REPORT_PDU - SNMPSEC_GET_REQUEST + 1 };
 struct counts {
     /* by the event's number: what was taken from clients and devices, and what went out */
     uint64_t events[SNMPSEC_GATE_UNANSWERED + 1];
+    /* requests that were accepted and wait, by the PDU's tag from that of a GetRequest on */
+    uint64_t messages[PDUS];
     /* by the refusal's number */
     uint64_t refused[19];
     /* answers of devices by their error-status; the last is of those that have no name */

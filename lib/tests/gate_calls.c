@@ -168,6 +168,12 @@ static void hidden_counted(void) {
     check("new", 0, made(views, &gate));
     check("a request", 0, snmpsec_gate_take_client(gate, 1000, (const uint8_t *)"client", 6, asked, sizeof asked, &event));
     check("begins", SNMPSEC_GATE_BEGINS, event);
+    check("numbers of it", 0, snmpsec_gate_numbers(gate, &info));
+    check("by a GetRequest", SNMPSEC_GET_REQUEST, (long long)info.pdu);
+    check("once more", 0, snmpsec_gate_take_client(gate, 1000, (const uint8_t *)"client", 6, asked, sizeof asked, &event));
+    check("joins", SNMPSEC_GATE_JOINS, event);
+    check("its numbers", 0, snmpsec_gate_numbers(gate, &info));
+    check("by a GetRequest too", SNMPSEC_GET_REQUEST, (long long)info.pdu);
     check("its device", 0, snmpsec_gate_next(gate, 1000, 1, 1, &event, &why));
     check("is asked", SNMPSEC_GATE_TO_DEVICE, event);
     check("what comes from it", 0, snmpsec_gate_take_device(gate, 1000, 0, answer, sizeof answer, &event));
@@ -175,6 +181,7 @@ static void hidden_counted(void) {
     check("numbers", 0, snmpsec_gate_numbers(gate, &info));
     check("by a binding too many", SNMPSEC_MISFIT_TOO_MANY, (long long)info.misfit);
     check("which is hidden", 1, (long long)info.hidden);
+    check("and is no client's message", 0, (long long)info.pdu);
     check("what goes out", 0, snmpsec_gate_next(gate, 1000, 2, 2, &event, &why));
     check("goes to the client", SNMPSEC_GATE_TO_CLIENT, event);
     check("numbers once more", 0, snmpsec_gate_numbers(gate, &info));

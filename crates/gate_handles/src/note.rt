@@ -2,7 +2,7 @@
 
 ghost use Rattle.std.specs.Prelude.{◌≡◌};
 ghost use Rattle.gate_handles.specs.Notes.{binding_number, fault_numbers, misfit_number, natural, note_numbers};
-ghost use Rattle.gate_handles.specs.Notes.{note_to};
+ghost use Rattle.gate_handles.specs.Notes.{note_to, tag_number};
 
 use snmp_gate::ResponseStatus;
 use snmp_walk::{AnswerFault, Misfit};
@@ -11,6 +11,8 @@ use snmp_walk::{AnswerFault, Misfit};
 #[derive(Clone, Copy)]
 pub(crate) enum GateNote {
     Nothing,
+    /// The request for which a client's message waits, by the tag of its PDU.
+    Request(Option<u8>),
     /// The datagram to the client is a Response with this error-status and error-index.
     Response(ResponseStatus),
     /// The datagram to the client is a Report.
@@ -32,19 +34,30 @@ impl GateNote {
     }
 
     /// Returns error-status and error-index of the Response, 1 for a Report, the number of what doesn't fit, that of
-    /// the binding, and how many bindings are hidden. The others are 0.
-    pub(crate) fn numbers(self) -> [u64; 6]
+    /// the binding, how many bindings are hidden, and the tag of the request's PDU. The others are 0.
+    pub(crate) fn numbers(self) -> [u64; 7]
         ensures { result ≡ note_numbers self }
     {
         match self {
-            GateNote::Nothing => [0, 0, 0, 0, 0, 0],
-            GateNote::Response(says) => [natural(says.status), natural(says.index), 0, 0, 0, 0],
-            GateNote::Report => [0, 0, 1, 0, 0, 0],
+            GateNote::Nothing => [0, 0, 0, 0, 0, 0, 0],
+            GateNote::Request(tag) => [0, 0, 0, 0, 0, 0, tag_number(tag)],
+            GateNote::Response(says) => [natural(says.status), natural(says.index), 0, 0, 0, 0, 0],
+            GateNote::Report => [0, 0, 1, 0, 0, 0, 0],
             GateNote::Answer(fault, hidden) => {
                 let (misfit, binding) = fault_numbers(fault);
-                [0, 0, 0, misfit, binding, hidden as u64]
+                [0, 0, 0, misfit, binding, hidden as u64, 0]
             }
         }
+    }
+}
+
+/// Returns the tag of a PDU, or 0 if there is none.
+fn tag_number(tag: Option<u8>) -> u64
+    ensures { result ≡ tag_number tag }
+{
+    match tag {
+        Some(tag) => tag as u64,
+        None => 0,
     }
 }
 

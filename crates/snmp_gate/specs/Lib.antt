@@ -21,6 +21,7 @@ pub mod Through
 pub mod History
 pub mod Lawful
 pub mod Taking
+pub mod RequestTags
 pub mod Fits
 pub mod Hidden
 pub mod Waiting

@@ -273,6 +273,7 @@ mod onward;
 mod read_ask;
 mod refused_access;
 mod reply;
+mod request_tag;
 mod requests;
 mod retries;
 mod set_answer;

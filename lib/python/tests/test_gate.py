@@ -4,7 +4,7 @@ import tempfile
 import unittest
 
 import snmpsec
-from snmpsec import Gate, GateEvent, Level, Manager, Misfit, Part, Refusal, datagram_user, gate_fault
+from snmpsec import Gate, GateEvent, Level, Manager, Misfit, Part, Pdu, Refusal, datagram_user, gate_fault
 from test_snmpsec import ALLOWING, BOOTS, HELLO, NOW, TIME, ask
 
 GATE = b"""
@@ -106,6 +106,13 @@ class Gateway(unittest.TestCase):
         self.assertEqual(self.gate.answer()[1:], (Misfit.OTHER_NAME, 1, 0))
         sent = self.gate.next(MOMENT, 2, 2)
         self.assertEqual((sent.status, sent.index), (5, 0))
+
+    def test_a_message_has_its_pdu(self):
+        self.learn()
+        asked = self.ask(2, Level.AUTH_PRIV)
+        for event in (GateEvent.BEGINS, GateEvent.JOINS):
+            self.assertEqual(self.gate.take_client(MOMENT, b"client", asked), event)
+            self.assertEqual(self.gate.pdu(), Pdu.GET)
 
     def test_bindings_that_are_hidden_are_counted(self):
         self.learn()

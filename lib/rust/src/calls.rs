@@ -144,6 +144,7 @@ pub struct GateInfo {
     pub misfit: u64,
     pub binding: u64,
     pub hidden: u64,
+    pub pdu: u64,
 }
 
 #[repr(C)]

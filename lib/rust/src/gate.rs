@@ -45,10 +45,10 @@ enum Text {
 /// What becomes of a client's datagram that isn't refused.
 #[derive(Clone, Copy, Debug, PartialEq, Eq)]
 pub enum ClientTaken {
-    /// It begins this request.
-    Begins(u64),
+    /// It begins this request. Its PDU has this tag, one of `Pdu`.
+    Begins { request: u64, pdu: u8 },
     /// It asks again what waits: its request is this one.
-    Joins(u64),
+    Joins { request: u64, pdu: u8 },
     /// As many requests wait as may.
     NoRoom,
     /// It is a Set of before whose outcome isn't known.
@@ -264,12 +264,24 @@ impl Gate {
             )
         })?;
         Ok(match event {
-            it if it == Event::GateBegins as u32 => ClientTaken::Begins(self.numbers()?.request),
-            it if it == Event::GateJoins as u32 => ClientTaken::Joins(self.numbers()?.request),
+            it if it == Event::GateBegins as u32 => {
+                let (request, pdu) = self.asked()?;
+                ClientTaken::Begins { request, pdu }
+            }
+            it if it == Event::GateJoins as u32 => {
+                let (request, pdu) = self.asked()?;
+                ClientTaken::Joins { request, pdu }
+            }
             it if it == Event::GateNoRoom as u32 => ClientTaken::NoRoom,
             it if it == Event::GateSetOfBefore as u32 => ClientTaken::SetOfBefore,
             other => return Err(Error::Other(other as i32)),
         })
+    }
+
+    /// The request for which the message waits that was taken last, and the tag of its PDU.
+    fn asked(&mut self) -> Result<(u64, u8), Error> {
+        let info = self.numbers()?;
+        Ok((info.request, info.pdu as u8))
     }
 
     /// Takes a datagram of the device at this position, from 0. The error is OutOfMemory.

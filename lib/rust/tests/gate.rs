@@ -91,14 +91,17 @@ fn a_request_goes_to_its_device_and_back() {
     both.learn();
     for (id, level) in [(2, Level::NoAuthNoPriv), (3, Level::AuthPriv)] {
         let message = both.ask(id, level);
-        let Ok(ClientTaken::Begins(number)) = both.gate.take_client(NOW, b"client", &message)
-        else {
+        let taken = both.gate.take_client(NOW, b"client", &message);
+        let Ok(ClientTaken::Begins { request: number, pdu }) = taken else {
             panic!("a request begins");
         };
-        assert_eq!(
-            both.gate.take_client(NOW, b"client", &message),
-            Ok(ClientTaken::Joins(number))
-        );
+        assert_eq!(pdu, Pdu::GetRequest as u8);
+        let joins = ClientTaken::Joins {
+            request: number,
+            pdu,
+        };
+        let again = both.gate.take_client(NOW, b"client", &message);
+        assert_eq!(again, Ok(joins));
         assert_eq!(both.gate.waiting(), Ok(1));
         let Some(Sent::ToDevice {
             device: 0,

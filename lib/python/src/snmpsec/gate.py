@@ -15,8 +15,8 @@ import ctypes
 from enum import IntEnum
 from typing import List, NamedTuple, Optional, Sequence, Union
 
-from . import (Access, BadConfiguration, Buffer, NothingTaken, Path, Refusal, Refused, _arcs, _copied, _Counting, _done, _library, _Object, _octets,
-               _ranged, _refusal, wiped)
+from . import (Access, BadConfiguration, Buffer, NothingTaken, Path, Pdu, Refusal, Refused, _arcs, _copied, _Counting, _done, _library, _Object,
+               _octets, _ranged, _refusal, wiped)
 from ._library import CALLS
 
 __all__ = ["Gate", "GateAnswer", "GateDevice", "GateEvent", "GateReceiver", "GateSent", "Misfit", "datagram_user", "gate_fault"]
@@ -166,6 +166,10 @@ class Gate(_Counting):
         event = _library.Enumeration()
         answer = self._call("take_client", _ranged(now, 64), *_octets(client, datagram), ctypes.byref(event))
         return _refusal(answer) or GateEvent(event.value)
+
+    def pdu(self) -> Pdu:
+        """By which PDU the message asks that the last call took, where that was BEGINS or JOINS."""
+        return Pdu(self._numbers().pdu)
 
     def take_device(self, now: int, device: int, datagram: Buffer) -> GateEvent:
         """Takes a datagram of the device at this position, from 0."""
