@@ -553,7 +553,8 @@ class Gateway:
             self.go_on(now, request, status, index, bindings)
         except Ends as ends:
             request.ends = ends
-        return f"answers {request.number}{request.ends.fault if request.ends else ''}"
+        hidden = sum(not request.talk.view.sees(name) for name, _ in bindings) if request.talk else 0
+        return f"answers {request.number}{f' hidden {hidden}' if hidden else ''}{request.ends.fault if request.ends else ''}"
 
     def community_of(self, request):
         device = self.devices[request.device]

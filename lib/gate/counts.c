@@ -116,12 +116,27 @@ static void write_traps(FILE *to, const struct told *told) {
     write_one(to, "informs_waiting", "gauge", info.informs);
 }
 
+/* (PDUs that no gateway answers are counted together) */
+static void write_messages(FILE *to, const uint64_t *messages) {
+    static const uint8_t tags[] = {SNMPSEC_GET_REQUEST, SNMPSEC_GET_NEXT_REQUEST, SNMPSEC_GET_BULK_REQUEST, SNMPSEC_SET_REQUEST};
+    uint64_t others = 0;
+    write_name(to, "messages_total", "counter");
+    for (size_t i = 0; i < PDUS; i++) others += messages[i];
+    for (size_t i = 0; i < sizeof tags; i++) {
+        uint64_t count = messages[tags[i] - SNMPSEC_GET_REQUEST];
+        others -= count;
+        fprintf(to, "snmpsec_gate_messages_total{pdu=\"%s\"} %" PRIu64 "\n", pdu_name(tags[i]), count);
+    }
+    fprintf(to, "snmpsec_gate_messages_total{pdu=\"other\"} %" PRIu64 "\n", others);
+}
+
 static void write_all(FILE *to, const struct told *told) {
     const struct counts *counts = told->counts;
     snmpsec_gate_info info;
     write_name(to, "events_total", "counter");
     for (size_t i = 0; i < sizeof names / sizeof *names; i++)
         fprintf(to, "snmpsec_gate_events_total{event=\"%s\"} %" PRIu64 "\n", names[i].name, counts->events[names[i].event]);
+    write_messages(to, counts->messages);
     write_refused(to, "refused_total", counts->refused);
     write_one(to, "reports_total", "counter", counts->reports);
     write_one(to, "request_reports_total", "counter", counts->request_reports);
@@ -130,6 +145,8 @@ static void write_all(FILE *to, const struct told *told) {
     write_one(to, "unlogged_total", "counter", counts->unlogged);
     write_statuses(to, "answers_total", counts->statuses);
     write_misfits(to, counts->misfits);
+    fputs("# HELP snmpsec_gate_hidden_bindings_total Bindings of devices' answers, not to Sets, whose names the user may not read.\n", to);
+    write_one(to, "hidden_bindings_total", "counter", counts->hidden_bindings);
     write_statuses(to, "responses_total", counts->responses);
     if (told->forward) write_traps(to, told);
     write_devices(to, told->devices, told->devices_len);

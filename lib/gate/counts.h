@@ -14,15 +14,19 @@ struct device_counts { uint64_t asked, asked_again, answered, unfit, given_up, n
 enum { MISFITS = SNMPSEC_MISFIT_AFTER_END + 1 };
 
 enum { INFORM_MESSAGES = SNMPSEC_INFORM_ITSELF + 1 };
+/* the tags of PDUs, from that of a GetRequest to that of a Report */
+enum { PDUS = SNMPSEC_REPORT_PDU - SNMPSEC_GET_REQUEST + 1 };
 struct counts {
     /* by the event's number: what was taken from clients and devices, and what went out */
     uint64_t events[SNMPSEC_GATE_UNANSWERED + 1];
+    /* requests that were accepted and wait, by the PDU's tag from that of a GetRequest on */
+    uint64_t messages[PDUS];
     /* by the refusal's number */
     uint64_t refused[19];
     /* answers of devices by their error-status; the last is of those that have no name */
     uint64_t statuses[STATUSES + 1];
-    /* answers of devices that don't fit what was asked, by why */
-    uint64_t misfits[MISFITS];
+    /* answers of devices that don't fit what was asked, by why; and bindings of their answers that the user may not read */
+    uint64_t misfits[MISFITS], hidden_bindings;
     /* Responses to clients, by their error-status, and Reports on requests; and requests that wanted more rounds than they may have */
     uint64_t responses[STATUSES + 1], request_reports, rounds_used_up;
     uint64_t reports, unsent, unlogged;

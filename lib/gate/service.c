@@ -100,11 +100,12 @@ static void take_refused(struct gateway *gateway, uint64_t now, const struct cli
     send_report(gateway, client);
 }
 
-/* Keeps for lines whose message begins a request, or joins one. */
+/* Counts a message that begins a request, or joins one, and keeps for lines whose it is. */
 static void note_client(struct gateway *gateway, snmpsec_gate_event event, const struct client *client, size_t len) {
     snmpsec_gate_info info;
     uint8_t user[MOST_USER];
     if (snmpsec_gate_numbers(gateway->gate, &info)) return;
+    if (info.pdu >= SNMPSEC_GET_REQUEST && info.pdu <= SNMPSEC_REPORT_PDU) gateway->counts.messages[info.pdu - SNMPSEC_GET_REQUEST]++;
     if (event == SNMPSEC_GATE_BEGINS) waiting_begins(info.request, client, user, user_of(len, user), digest_of(datagram, len));
     else waiting_joins(info.request);
 }
@@ -187,6 +188,7 @@ static void note_answer(struct gateway *gateway, uint64_t now, struct device *de
     struct pdu pdu;
     if (snmpsec_gate_numbers(gateway->gate, &info) || !pdu_of(datagram, len, &pdu)) return;
     gateway->counts.statuses[pdu.status < STATUSES ? pdu.status : STATUSES]++;
+    gateway->counts.hidden_bindings += info.hidden;
     waiting_answers(info.request, &pdu, info.misfit == SNMPSEC_MISFIT_NONE);
     const struct waiting *request = waiting_of(info.request);
     if (info.misfit && info.misfit < MISFITS) {

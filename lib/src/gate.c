@@ -84,7 +84,7 @@ int snmpsec_gate_client(snmpsec_gate *gate, uint8_t *out, size_t out_len, size_t
 }
 
 enum { GATE_NUMBERS = sizeof(snmpsec_gate_info) / sizeof(uint64_t) };
-_Static_assert(GATE_NUMBERS == 8, "the numbers of a gateway lie one after another");
+_Static_assert(GATE_NUMBERS == 10, "the numbers of a gateway lie one after another");
 
 int snmpsec_gate_numbers(snmpsec_gate *gate, snmpsec_gate_info *out) {
     return gate && out ? proved_gate_numbers(gate, (uint64_t *)out, GATE_NUMBERS) : SNMPSEC_BAD_ARGUMENT;

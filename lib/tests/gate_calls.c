@@ -57,7 +57,7 @@ static void said(void) {
 static void nobody_answered(void) {
     snmpsec_gate *gate;
     snmpsec_gate_event event = SNMPSEC_GATE_BEGINS;
-    snmpsec_gate_info info = {1, 1, 1, 1, 1, 1, 1, 1};
+    snmpsec_gate_info info = {1, 1, 1, 1, 1, 1, 1, 1, 1};
     static const snmpsec_gate_info none;
     int why = 0;
     check("read", 0, read_of(text, &gate));
@@ -144,6 +144,51 @@ static void datagrams_refused(void) {
     snmpsec_gate_free(gate);
 }
 
+/* A GetRequest of ann for sysDescr.0 of the device pdu, without authentication, as message 1; and an answer to it with request-id 1, which has the value
+ * "a", and "b" for sysName.0. */
+static const uint8_t asked[] = {
+    0x30, 0x61, 2, 1, 3, 0x30, 0x0d, 2, 1, 1, 2, 2, 5, 0xc0, 4, 1, 4, 2, 1, 3, 4, 0x1e, 0x30, 0x1c, 4, 0x0b, 0x80, 0, 0x1f, 0x88,
+    4, 0x67, 0x61, 0x74, 0x65, 0x2d, 0x31, 2, 1, 0, 2, 1, 0, 4, 3, 0x61, 0x6e, 0x6e, 4, 0, 4, 0, 0x30, 0x2d, 4, 0x0b, 0x80, 0, 0x1f, 0x88,
+    4, 0x67, 0x61, 0x74, 0x65, 0x2d, 0x31, 4, 3, 0x70, 0x64, 0x75, 0xa0, 0x19, 2, 1, 7, 2, 1, 0, 2, 1, 0, 0x30, 0x0e, 0x30, 0x0c, 6, 8, 0x2b,
+    6, 1, 2, 1, 1, 1, 0, 5, 0};
+static const uint8_t answer[] = {
+    0x30, 0x35, 2, 1, 1, 4, 5, 0x72, 0x65, 0x61, 0x64, 0x73, 0xa2, 0x29, 2, 1, 1, 2, 1, 0, 2, 1, 0, 0x30, 0x1e, 0x30, 0x0d, 6, 8, 0x2b,
+    6, 1, 2, 1, 1, 1, 0, 4, 1, 0x61, 0x30, 0x0d, 6, 8, 0x2b, 6, 1, 2, 1, 1, 5, 0, 4, 1, 0x62};
+
+/* How many bindings of a device's answer the view hides. */
+static void hidden_counted(void) {
+    static const char views[] = HEAD DEVICE "[[user]]\nname = 'ann'\nauth = 'sha256'\nauth-password = 'maplesyrup'\n"
+        "[[group]]\nmodel = 3\nname = 'ann'\ngroup = 'g'\n"
+        "[[access]]\ngroup = 'g'\nprefix = 'pdu'\nmodel = 3\nlevel = 'noAuthNoPriv'\nmatch = 'exact'\nread = 'v'\n"
+        "[[family]]\nview = 'v'\nsubtree = '1.3.6.1.2.1.1.1'\ninclude = true\n";
+    snmpsec_gate *gate;
+    snmpsec_gate_event event = SNMPSEC_GATE_NOTHING;
+    snmpsec_gate_info info;
+    int why = 0;
+    check("new", 0, made(views, &gate));
+    check("a request", 0, snmpsec_gate_take_client(gate, 1000, (const uint8_t *)"client", 6, asked, sizeof asked, &event));
+    check("begins", SNMPSEC_GATE_BEGINS, event);
+    check("numbers of it", 0, snmpsec_gate_numbers(gate, &info));
+    check("by a GetRequest", SNMPSEC_GET_REQUEST, (long long)info.pdu);
+    check("once more", 0, snmpsec_gate_take_client(gate, 1000, (const uint8_t *)"client", 6, asked, sizeof asked, &event));
+    check("joins", SNMPSEC_GATE_JOINS, event);
+    check("its numbers", 0, snmpsec_gate_numbers(gate, &info));
+    check("by a GetRequest too", SNMPSEC_GET_REQUEST, (long long)info.pdu);
+    check("its device", 0, snmpsec_gate_next(gate, 1000, 1, 1, &event, &why));
+    check("is asked", SNMPSEC_GATE_TO_DEVICE, event);
+    check("what comes from it", 0, snmpsec_gate_take_device(gate, 1000, 0, answer, sizeof answer, &event));
+    check("answers", SNMPSEC_GATE_ANSWERS, event);
+    check("numbers", 0, snmpsec_gate_numbers(gate, &info));
+    check("by a binding too many", SNMPSEC_MISFIT_TOO_MANY, (long long)info.misfit);
+    check("which is hidden", 1, (long long)info.hidden);
+    check("and is no client's message", 0, (long long)info.pdu);
+    check("what goes out", 0, snmpsec_gate_next(gate, 1000, 2, 2, &event, &why));
+    check("goes to the client", SNMPSEC_GATE_TO_CLIENT, event);
+    check("numbers once more", 0, snmpsec_gate_numbers(gate, &info));
+    check("and hides nothing", 0, (long long)info.hidden);
+    snmpsec_gate_free(gate);
+}
+
 /* Each growth of memory is refused in turn, until there is enough for this. */
 static void made_of_enough(int (*make)(const char *, snmpsec_gate **), snmpsec_gate **gate) {
     int answer = SNMPSEC_OUT_OF_MEMORY;
@@ -178,6 +223,7 @@ int main(int argc, char **argv) {
     refused_texts();
     nothing_given();
     datagrams_refused();
+    hidden_counted();
     refused_memory();
     return checks_told();
 }

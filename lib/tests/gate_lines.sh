@@ -86,6 +86,7 @@ test_lines_of_refusals() {
 test_counts_told() {
     kill -USR1 "$gate"
     for _ in {1..200}; do [ -s "$counts" ] && break; sleep 0.1; done
+    counted "messages by their PDU" 'snmpsec_gate_messages_total{pdu="set"} 0'
     counted "a device's asks that were repeated" 'snmpsec_gate_device_total{device="pdu",event="asked_again"} 2'
     counted "that it was given up" 'snmpsec_gate_device_total{device="pdu",event="given_up"} 2'
     counted "what nothing waited for" 'snmpsec_gate_device_total{device="pdu",event="not_waited_for"} 1'
@@ -96,10 +97,11 @@ test_counts_told() {
     counted "what didn't fit" 'snmpsec_gate_misfits_total{misfit="other_name"} 1'
     counted "and what had no value" 'snmpsec_gate_misfits_total{misfit="no_value"} 1'
     counted "what took too many rounds" 'snmpsec_gate_rounds_used_up_total 1'
+    counted "and a hidden variable in each of them" 'snmpsec_gate_hidden_bindings_total 64'
     counted "which device that was" 'snmpsec_gate_device_total{device="pdu",event="unfit"} 5'
     counted "one without a name" 'snmpsec_gate_answers_total{error_status="other"} 1'
     counted "a label with quotes" 'snmpsec_gate_device_total{device="a\\x20\"b\\x5cc",event="given_up"} 1'
-    check "each sample is one of Prometheus" "" "$(grep -v -E '^(# TYPE [a-z_]+ (counter|gauge)|[a-z_]+(\{[a-z_]+="([^"\\]|\\.)*"(,[a-z_]+="([^"\\]|\\.)*")*\})? [0-9]+)$' "$counts")"
+    check "each sample is one of Prometheus" "" "$(grep -v -E '^(# HELP [a-z_]+ .+|# TYPE [a-z_]+ (counter|gauge)|[a-z_]+(\{[a-z_]+="([^"\\]|\\.)*"(,[a-z_]+="([^"\\]|\\.)*")*\})? [0-9]+)$' "$counts")"
     kill -HUP "$gate"
     tells "the file is read anew" 'is read anew$'
     rm -f "$counts"

@@ -7,7 +7,7 @@
 -- `TakesClient`, `TakesDevice`, `SendsNext`: what becomes of a datagram and what goes out, with what happens by it
 -- and that it is lawful after what happened before (`ClientHappens`, `DeviceHappens`, `SendHappens`). `RunsOut`:
 -- there was no memory. `Empties`: all is given back.
-use Rattle.std.specs.Prelude.{◌≡◌, ◌<◌, ◌≤◌, ◌⊎◌, ⊤, ℕ, List, [], map, Option, Some, None, option_map, Result, Ok, Err}
+use Rattle.std.specs.Prelude.{◌≡◌, ◌<◌, ◌≤◌, ◌⊎◌, ⊤, ℕ, List, [], map, Option, Some, None, option_map, Result, Ok, Err, MatchOption}
 use Rattle.std.specs.Prelude.{replicate, string_bytes}
 use Rattle.engine_clock.specs.Pairs.{pair_max}
 use Rattle.usm_users.specs.User.{User}
@@ -17,6 +17,8 @@ use Rattle.vacm_core.specs.declared.rows.AccessRow.{AccessRow}
 use Rattle.snmp_message.specs.declared.refusal.Refusal.TheVariants.{OutOfMemory}
 use Rattle.snmp_agent.specs.Agent.{AgentState}
 use Rattle.snmp_gate.specs.Fits.{IsFitTold}
+use Rattle.snmp_gate.specs.Hidden.{IsHiddenTold}
+use Rattle.snmp_gate.specs.RequestTags.{IsNumberOfNone, IsTagOf}
 use Rattle.snmp_gate.specs.History.{Happening}
 use Rattle.snmp_gate.specs.Waiting.{ClientHappens, DeviceHappens, Fresh, GateStands, IsAsBefore, SendHappens, fresh}
 use Rattle.snmp_gate.specs.declared.devices.Device.{Device}
@@ -36,7 +38,7 @@ use Rattle.snmpsec_gate_config.specs.declared.settings.ReceiverSettings.{Receive
 use Rattle.snmp_handles.specs.Agents.{begins, no_rows}
 use Rattle.snmp_handles.specs.declared.fault.CallFault.{CallFault}
 use Rattle.snmp_handles.specs.declared.fault.CallFault.TheVariants.{Refused, BadArgument, BadConfiguration}
-use Rattle.gate_handles.specs.Notes.{note_of, note_to}
+use Rattle.gate_handles.specs.Notes.{note_to}
 use Rattle.gate_handles.specs.declared.note.GateNote.{GateNote}
 use Rattle.gate_handles.specs.declared.note.GateNote.TheVariants as note
 use Rattle.gate_handles.specs.declared.making.TheConstants.{NAMES, JOINED, GATHERED}
@@ -195,12 +197,18 @@ pub record RunsOut (old : GateHeld) (now : ℕ) (told : Result GateEvent CallFau
 
 -- ---- what comes from a client
 
+-- nothing is to be sent; the number and the PDU's tag of the request for which the message waits are told
+abbrev pub LeavesRequest : GateHeld → ℕ → Type 0
+LeavesRequest new number = (new.request ≡ number) × ((tag : Option ℕ) × Leaves new None None (note.Request tag)
+    × MatchOption tag (IsNumberOfNone new.gate.requests.list.items number)
+    (IsTagOf new.gate.requests.list.items number))
+
 -- what is reported of what becomes of it
 abbrev pub TellsClient : ClientTaken → Result GateEvent CallFault → GateHeld → Type 0
 TellsClient (client.Refused refused) told new = (told ≡ Err (Refused refused.why.refusal))
     × Leaves new None (option_map (λ v. v.items) refused.report) note.Nothing
-TellsClient (client.Begins number) told new = (told ≡ Ok event.Begins) × (new.request ≡ number) × IsQuiet new
-TellsClient (client.Joins number) told new = (told ≡ Ok event.Joins) × (new.request ≡ number) × IsQuiet new
+TellsClient (client.Begins number) told new = (told ≡ Ok event.Begins) × LeavesRequest new number
+TellsClient (client.Joins number) told new = (told ≡ Ok event.Joins) × LeavesRequest new number
 TellsClient client.NoRoom told new = (told ≡ Ok event.NoRoom) × IsQuiet new
 TellsClient client.SetOfBefore told new = (told ≡ Ok event.SetOfBefore) × IsQuiet new
 
@@ -219,8 +227,8 @@ TakesClient old now from datagram told new = KeepsSaid old new
 -- ---- what comes from a device
 
 abbrev pub TellsDevice : DeviceTaken → Result GateEvent CallFault → GateHeld → Type 0
-TellsDevice (device.Answers number fault) told new = (told ≡ Ok event.Answers) × (new.request ≡ number)
-    × Leaves new None None (note_of fault)
+TellsDevice (device.Answers number fault hidden) told new = (told ≡ Ok event.Answers) × (new.request ≡ number)
+    × Leaves new None None (note.Answer fault hidden)
 TellsDevice device.NotWaitedFor told new = (told ≡ Ok event.NotWaitedFor) × IsQuiet new
 TellsDevice device.Unreadable told new = (told ≡ Ok event.Unreadable) × IsQuiet new
 
@@ -229,6 +237,7 @@ pub record TookDevice (old : GateHeld) (now number : ℕ) (datagram : List ℕ) 
   pub taken : DeviceTaken
   pub tells : TellsDevice taken told new
   pub fits : IsFitTold old.gate number datagram taken
+  pub hidden : IsHiddenTold old.gate number datagram taken
   pub happens : (since : ℕ) (before : List Happening) → since ≤ now → GateStands since before old.gate
       → DeviceHappens old.gate now before number datagram taken new.gate
 

@@ -11,7 +11,7 @@ ghost use Rattle.snmp_handles.specs.Parts.{CopiesMessage};
 ghost use Rattle.snmp_handles.specs.declared.fault.CallFault.TheVariants.{Refused};
 ghost use Rattle.gate_handles.specs.Gates.{MakesGate, RefusesConfig, IsAccessOf, IsNewGate, IsEmptyAgent, Empties};
 ghost use Rattle.gate_handles.specs.Gates.{KeepsSaid, IsQuiet, TakesClient, TellsClient, TakesDevice, SendsNext};
-ghost use Rattle.gate_handles.specs.Gates.{IsAgentWithoutUsers, ReadsGate, TellsDevice, TellsSent};
+ghost use Rattle.gate_handles.specs.Gates.{IsAgentWithoutUsers, LeavesRequest, ReadsGate, TellsDevice, TellsSent};
 ghost use Rattle.gate_handles.specs.Told.{CountsOf, MayNotify, ReadsSetting, numbers_of};
 
 use crate::event::GateEvent;
@@ -343,16 +343,27 @@ impl GateHandle {
                 Err(CallFault::Refused(refused.why.refusal))
             }
             ClientTaken::Begins(number) => {
-                self.request = number;
+                self.note_request(number);
                 Ok(GateEvent::Begins)
             }
             ClientTaken::Joins(number) => {
-                self.request = number;
+                self.note_request(number);
                 Ok(GateEvent::Joins)
             }
             ClientTaken::NoRoom => Ok(GateEvent::NoRoom),
             ClientTaken::SetOfBefore => Ok(GateEvent::SetOfBefore),
         }
+    }
+
+    /// Notes the request for which a client's message waits.
+    fn note_request(&mut self, number: u64)
+        requires { IsQuiet self.old }
+        ensures leaves { LeavesRequest self.new number }
+        ensures keeps { KeepsSaid self.old self.new }
+        ensures gate { self.new.gate ≡ self.old.gate }
+    {
+        self.request = number;
+        self.note = GateNote::Request(self.gate.request_tag(number));
     }
 
     /// Takes a datagram from the device of this number, counted from 0, at this moment, in milliseconds, as
@@ -383,9 +394,13 @@ impl GateHandle {
         ensures gate { self.new.gate ≡ self.old.gate }
     {
         match taken {
-            DeviceTaken::Answers { number, fault } => {
+            DeviceTaken::Answers {
+                number,
+                fault,
+                hidden,
+            } => {
                 self.request = number;
-                self.note = GateNote::of_answer(fault);
+                self.note = GateNote::Answer(fault, hidden);
                 GateEvent::Answers
             }
             DeviceTaken::NotWaitedFor => GateEvent::NotWaitedFor,
@@ -528,14 +543,15 @@ impl GateHandle {
     /// Returns the number of the request that the last call was about, that of the device, and how many requests
     /// wait. Behind these stands what the last call told, and 0 for what it didn't: of a Response that goes to a
     /// client error-status and error-index; 1 for a Report that goes to one; and of a device's answer why its bindings
-    /// don't answer what it was asked, and the number of the first such binding, counted from 1.
+    /// don't answer what it was asked, the number of the first such binding, counted from 1, and how many of its
+    /// bindings the request's message may not see; and of a client's message that waits the tag of its PDU.
     ///
     /// Why: 1 it has too few bindings, 2 too many, 3 one of another name, 4 one of a name that isn't after the one
     /// asked, 5 one without a value, 6 one with a value behind endOfMibView.
-    pub fn numbers(&self) -> [u64; 8]
+    pub fn numbers(&self) -> [u64; 10]
         ensures { result ≡ numbers_of self.now }
     {
-        let [status, index, report, misfit, binding] = self.note.numbers();
+        let [status, index, report, misfit, binding, hidden, tag] = self.note.numbers();
         let (device, waiting) = (self.device as u64, self.gate.waiting() as u64);
         [
             self.request,
@@ -546,6 +562,8 @@ impl GateHandle {
             report,
             misfit,
             binding,
+            hidden,
+            tag,
         ]
     }
 

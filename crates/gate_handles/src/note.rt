@@ -2,7 +2,7 @@
 
 ghost use Rattle.std.specs.Prelude.{◌≡◌};
 ghost use Rattle.gate_handles.specs.Notes.{binding_number, fault_numbers, misfit_number, natural, note_numbers};
-ghost use Rattle.gate_handles.specs.Notes.{note_of, note_to};
+ghost use Rattle.gate_handles.specs.Notes.{note_to, tag_number};
 
 use snmp_gate::ResponseStatus;
 use snmp_walk::{AnswerFault, Misfit};
@@ -11,12 +11,15 @@ use snmp_walk::{AnswerFault, Misfit};
 #[derive(Clone, Copy)]
 pub(crate) enum GateNote {
     Nothing,
+    /// The request for which a client's message waits, by the tag of its PDU.
+    Request(Option<u8>),
     /// The datagram to the client is a Response with this error-status and error-index.
     Response(ResponseStatus),
     /// The datagram to the client is a Report.
     Report,
-    /// The bindings of the device's answer don't answer what it was asked.
-    Unfit(AnswerFault),
+    /// A device's answer: why its bindings don't answer what it was asked, if they don't, and how many of them are
+    /// hidden.
+    Answer(Option<AnswerFault>, usize),
 }
 
 impl GateNote {
@@ -30,30 +33,31 @@ impl GateNote {
         }
     }
 
-    /// Returns what a device's answer is: one that fits, or doesn't for this reason.
-    pub(crate) fn of_answer(fault: Option<AnswerFault>) -> GateNote
-        ensures { result ≡ note_of fault }
-    {
-        match fault {
-            Some(fault) => GateNote::Unfit(fault),
-            None => GateNote::Nothing,
-        }
-    }
-
-    /// Returns error-status and error-index of the Response, 1 for a Report, the number of what doesn't fit, and that
-    /// of the binding. The others are 0.
-    pub(crate) fn numbers(self) -> [u64; 5]
+    /// Returns error-status and error-index of the Response, 1 for a Report, the number of what doesn't fit, that of
+    /// the binding, how many bindings are hidden, and the tag of the request's PDU. The others are 0.
+    pub(crate) fn numbers(self) -> [u64; 7]
         ensures { result ≡ note_numbers self }
     {
         match self {
-            GateNote::Nothing => [0, 0, 0, 0, 0],
-            GateNote::Response(says) => [natural(says.status), natural(says.index), 0, 0, 0],
-            GateNote::Report => [0, 0, 1, 0, 0],
-            GateNote::Unfit(fault) => {
+            GateNote::Nothing => [0, 0, 0, 0, 0, 0, 0],
+            GateNote::Request(tag) => [0, 0, 0, 0, 0, 0, tag_number(tag)],
+            GateNote::Response(says) => [natural(says.status), natural(says.index), 0, 0, 0, 0, 0],
+            GateNote::Report => [0, 0, 1, 0, 0, 0, 0],
+            GateNote::Answer(fault, hidden) => {
                 let (misfit, binding) = fault_numbers(fault);
-                [0, 0, 0, misfit, binding]
+                [0, 0, 0, misfit, binding, hidden as u64, 0]
             }
         }
+    }
+}
+
+/// Returns the tag of a PDU, or 0 if there is none.
+fn tag_number(tag: Option<u8>) -> u64
+    ensures { result ≡ tag_number tag }
+{
+    match tag {
+        Some(tag) => tag as u64,
+        None => 0,
     }
 }
 
@@ -86,13 +90,16 @@ fn misfit_number(misfit: Misfit) -> u64
     }
 }
 
-/// Returns the number of what doesn't fit, and that of the binding.
-fn fault_numbers(fault: AnswerFault) -> (u64, u64)
+/// Returns the number of what doesn't fit, and that of the binding. If all fits, both are 0.
+fn fault_numbers(fault: Option<AnswerFault>) -> (u64, u64)
     ensures { result ≡ fault_numbers fault }
 {
     match fault {
-        AnswerFault::TooFew => (1, 0),
-        AnswerFault::TooMany => (2, 0),
-        AnswerFault::AtBinding(place, misfit) => (misfit_number(misfit), binding_number(place)),
+        None => (0, 0),
+        Some(AnswerFault::TooFew) => (1, 0),
+        Some(AnswerFault::TooMany) => (2, 0),
+        Some(AnswerFault::AtBinding(place, misfit)) => {
+            (misfit_number(misfit), binding_number(place))
+        }
     }
 }

@@ -69,11 +69,11 @@ abbrev pub TellsMayNotify : ℕ → ℕ → List ℕ → GateHeld → GateHeld �
 TellsMayNotify receiver device arcs old new answer = (new ≡ old)
     × ((told : Result Access CallFault) × (answer ≡ access_code told) × MayNotify old receiver device arcs told)
 
--- eight numbers are in the front of the buffer, or it is too short
+-- ten numbers are in the front of the buffer, or it is too short
 abbrev pub TellsNumbersOf : List ℕ → List ℕ → GateHeld → GateHeld → ℤ → Type 0
 TellsNumbersOf out out_new old new answer = (new ≡ old)
-    × (((answer ≡ pos 0) × (8 ≤ length out) × (out_new ≡ numbers_of old ++ drop 8 out))
-    ⊎ ((answer ≡ fault_code ShortBuffer) × (length out < 8) × (out_new ≡ out)))
+    × (((answer ≡ pos 0) × (10 ≤ length out) × (out_new ≡ numbers_of old ++ drop 10 out))
+    ⊎ ((answer ≡ fault_code ShortBuffer) × (length out < 9) × (out_new ≡ out)))
 
 abbrev pub GateCounter : ℕ → GateHeld → GateHeld → ℤ → Type 0
 GateCounter n old new answer = (new ≡ old)

@@ -250,10 +250,11 @@ pub unsafe extern "C" fn proved_gate_may_notify(
     may_notify(&mut *(at as *mut GateHandle), receiver, device, arcs)
 }
 
-/// Writes eight numbers: that of the request that the last call was about, that of the device, and how many requests
+/// Writes ten numbers: that of the request that the last call was about, that of the device, and how many requests
 /// wait; and then what the last call told, as `GateHandle::numbers` does: error-status and error-index of the Response
-/// that goes to a client; 1 for a Report; why a device's answer doesn't answer what it was asked, 1 to 6, and the
-/// number of the binding, counted from 1. What wasn't told is 0. It answers -5 where there is no room for eight.
+/// that goes to a client; 1 for a Report; why a device's answer doesn't answer what it was asked, 1 to 6, the number of
+/// the binding, counted from 1, and how many of its bindings are hidden. What wasn't told is 0. It answers -5 where
+/// there is no room for ten.
 #[unsafe(no_mangle)]
 pub unsafe extern "C" fn proved_gate_numbers(at: *mut u8, out: &mut [u64]) -> i32
     ghost held: { GateHeld }

@@ -10,6 +10,7 @@ pub mod Tags
 pub mod Timers
 pub mod ReadNames
 pub mod Contexts
+pub mod Counts
 pub mod Asked
 pub mod Standing
 pub mod Sending

@@ -104,9 +104,9 @@ client_stands first middle last now from w client.SetOfBefore events known stays
 
 device_stands : (first middle last : Gate) (now number : ℕ) (w : List ℕ) (taken : DeviceTaken) (events : List Event) (known : RunStands first events middle) → Stays middle last → DeviceHappens middle now known.history number w taken last
     → RunStands first (device_comes now number w taken ∷ events) last
-device_stands first middle last now number w (device.Answers n why) events known stays happens = record {
+device_stands first middle last now number w (device.Answers n why hidden) events known stays happens = record {
   history = answered n number happens.0 w ∷ known.history;
-  is = happened first middle last now (answered n number happens.0 w) known.history events (device_comes now number w (device.Answers n why)) known.stays known.is happens.1 known.is.devices known.is.clients;
+  is = happened first middle last now (answered n number happens.0 w) known.history events (device_comes now number w (device.Answers n why hidden)) known.stays known.is happens.1 known.is.devices known.is.clients;
   stands = happens.1.stands;
   stays = stays_on first middle last known.stays stays;
   keeps = λ b. (keeps_more first last now (answered n number happens.0 w ∷ known.history) (stays_on first middle last known.stays stays) happens.1.stands b, tried_few first middle known.history (answered n number happens.0 w) known.stays happens.1.tried, known.keeps b);

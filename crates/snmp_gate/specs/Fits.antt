@@ -88,5 +88,5 @@ pub record IsFitOf (gate : Gate) (device : ℕ) (datagram : List ℕ) (number : 
   pub fits : HoldsAt (FitsRequest gate device id number answer fault) gate.requests.list.items place
 
 abbrev pub IsFitTold : Gate → ℕ → List ℕ → DeviceTaken → Type 0
-IsFitTold gate device datagram (Answers number fault) = IsFitOf gate device datagram number fault
+IsFitTold gate device datagram (Answers number fault hidden) = IsFitOf gate device datagram number fault
 IsFitTold gate device datagram _ = ⊤

@@ -21,7 +21,9 @@ pub mod Through
 pub mod History
 pub mod Lawful
 pub mod Taking
+pub mod RequestTags
 pub mod Fits
+pub mod Hidden
 pub mod Waiting
 pub mod Sending
 pub mod Beginning

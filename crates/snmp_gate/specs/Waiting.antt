@@ -196,7 +196,7 @@ ClientHappens old now before from datagram (client.Joins n) new = Accepts old no
 ClientHappens old now before from datagram _ new = GateStands now before new
 
 abbrev pub DeviceHappens : Gate → ℕ → List Happening → ℕ → List ℕ → DeviceTaken → Gate → Type 0
-DeviceHappens old now before number datagram (device.Answers n fault) new =
+DeviceHappens old now before number datagram (device.Answers n fault hidden) new =
     (p : PduParts) × Happens old now before (answered n number p datagram) new
 DeviceHappens old now before number datagram _ new = GateStands now before new
 

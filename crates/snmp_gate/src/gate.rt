@@ -45,6 +45,9 @@ pub enum DeviceTaken {
         number: u64,
         /// Why its bindings don't answer what was asked, if they don't. An answer with an error isn't looked at so.
         fault: Option<AnswerFault>,
+        /// How many of its bindings are hidden: the request's message may not see their names. Of an answer to a Set
+        /// it is 0.
+        hidden: usize,
     },
 }
 

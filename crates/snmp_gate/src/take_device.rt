@@ -10,6 +10,7 @@ ghost use Rattle.snmp_responder.specs.Code.{seen_by};
 ghost use Rattle.snmp_gate.specs.DeviceMessages.{IsDeviceAnswer};
 ghost use Rattle.snmp_gate.specs.Question.{Question};
 ghost use Rattle.snmp_gate.specs.Fits.{IsFitTold, TaskFits, WorkFits, fault_of};
+ghost use Rattle.snmp_gate.specs.Hidden.{IsHiddenTold};
 ghost use Rattle.snmp_gate.specs.Messages.{IsViewerOf, question_in, seen_in};
 ghost use Rattle.snmp_gate.specs.Ends.{EndsSet, IsEndFor};
 ghost use Rattle.snmp_gate.specs.declared.set_answer.ResponseStatus.{ResponseStatus as Says};
@@ -28,6 +29,7 @@ ghost use Rattle.snmp_gate.specs.declared.work.Work.TheVariants.{Open};
 use crate::device_answer::{DeviceAnswer, read_device_answer};
 use crate::devices::Device;
 use crate::gate::{DeviceTaken, Gate};
+use crate::hidden::hidden_in;
 use crate::named_task::NamedTask;
 use crate::onward::{AnswerTaken, Onward, after, fault_in, take_bulk, take_read};
 use crate::requests::WaitingRequest;
@@ -254,7 +256,8 @@ fn is_of(work: &Work, device: &Device, community: &[u8]) -> bool
 
 impl Gate {
     /// Takes a datagram from the device of this number, counted from 0, at this moment, in milliseconds. Nothing is
-    /// sent. Of an answer without an error whose bindings don't answer what was asked it says why (`fits`).
+    /// sent. Of an answer without an error whose bindings don't answer what was asked it says why (`fits`), and of each
+    /// answer how many of its bindings the request's message may not see (`hidden`).
     ///
     /// The error is out of memory. Then the datagram isn't taken, and may be taken again.
     pub fn take_device(
@@ -267,6 +270,7 @@ impl Gate {
             → GateStands since before self.old
             → DeviceHappens self.old now before device datagram.now taken self.new) }
         ensures fits { IfOk result (IsFitTold self.old device datagram.now) }
+        ensures hidden { IfOk result (IsHiddenTold self.old device datagram.now) }
         ensures unreadable { IfOk result (λ taken. taken ≡ DeviceTaken.Unreadable
             → (community : List ℕ) (p : PduParts) → ¬ IsDeviceAnswer datagram.now community p) }
         ensures stays { Stays self.old self.new }
@@ -284,16 +288,22 @@ impl Gate {
         };
         let request = &mut self.requests.list[place];
         let number = request.number;
+        let tables = self.agent.tables();
+        let hidden = hidden_in(&request.work, &request.first, tables, &answer.pdu);
         let fault = take_answer(
             self.alloc,
             &mut request.work,
             &request.first,
-            self.agent.tables(),
+            tables,
             &answer.pdu,
             lateness,
         )?;
         self.asks[device].end(id);
-        Ok(DeviceTaken::Answers { number, fault })
+        Ok(DeviceTaken::Answers {
+            number,
+            fault,
+            hidden,
+        })
     }
 
     /// Returns the request-id of an answer, and the place of the request for which the device was asked with it.

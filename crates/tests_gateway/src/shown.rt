@@ -26,17 +26,30 @@ fn taken_text(alloc: Global, taken: &ClientTaken) -> Result<String, AllocError> 
     }
 }
 
-/// Returns what became of a datagram from a device, and why an answer doesn't fit.
+/// Returns what became of a datagram from a device; how many bindings of an answer are hidden, if any are, and why it
+/// doesn't fit.
 fn answer_text(alloc: Global, taken: DeviceTaken) -> Result<String, AllocError> {
     match taken {
         DeviceTaken::Answers {
             number,
             fault: Some(fault),
+            hidden: 0,
         } => format!(in alloc; "answers {number} {fault:?}"),
         DeviceTaken::Answers {
             number,
+            fault: Some(fault),
+            hidden,
+        } => format!(in alloc; "answers {number} hidden {hidden} {fault:?}"),
+        DeviceTaken::Answers {
+            number,
             fault: None,
+            hidden: 0,
         } => format!(in alloc; "answers {number}"),
+        DeviceTaken::Answers {
+            number,
+            fault: None,
+            hidden,
+        } => format!(in alloc; "answers {number} hidden {hidden}"),
         DeviceTaken::NotWaitedFor => "not waited for".to_string(alloc),
         DeviceTaken::Unreadable => "unreadable".to_string(alloc),
     }

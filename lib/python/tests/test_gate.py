@@ -4,7 +4,7 @@ import tempfile
 import unittest
 
 import snmpsec
-from snmpsec import Gate, GateEvent, Level, Manager, Misfit, Part, Refusal, datagram_user, gate_fault
+from snmpsec import Gate, GateEvent, Level, Manager, Misfit, Part, Pdu, Refusal, datagram_user, gate_fault
 from test_snmpsec import ALLOWING, BOOTS, HELLO, NOW, TIME, ask
 
 GATE = b"""
@@ -86,7 +86,7 @@ class Gateway(unittest.TestCase):
             self.assertGreater(self.gate.due(), MOMENT)
             answer = answered(sent.datagram, HELLO)
             self.assertEqual(self.gate.take_device(MOMENT, 0, answer), GateEvent.ANSWERS)
-            self.assertEqual(self.gate.answer()[1:], (None, None))
+            self.assertEqual(self.gate.answer()[1:], (None, None, 0))
             self.assertEqual(self.gate.take_device(MOMENT, 0, answer), GateEvent.NOT_WAITED_FOR)
             self.assertEqual(self.gate.take_device(MOMENT, 0, b"junk"), GateEvent.UNREADABLE)
             for more in (1, 2):
@@ -103,9 +103,24 @@ class Gateway(unittest.TestCase):
         self.gate.take_client(MOMENT, b"client", self.ask(2, Level.AUTH_PRIV))
         other = snmpsec.binding((1, 3, 6, 1), 4, b"router")
         self.assertEqual(self.gate.take_device(MOMENT, 0, answered(self.gate.next(MOMENT, 1, 1).datagram, other)), GateEvent.ANSWERS)
-        self.assertEqual(self.gate.answer()[1:], (Misfit.OTHER_NAME, 1))
+        self.assertEqual(self.gate.answer()[1:], (Misfit.OTHER_NAME, 1, 0))
         sent = self.gate.next(MOMENT, 2, 2)
         self.assertEqual((sent.status, sent.index), (5, 0))
+
+    def test_a_message_has_its_pdu(self):
+        self.learn()
+        asked = self.ask(2, Level.AUTH_PRIV)
+        for event in (GateEvent.BEGINS, GateEvent.JOINS):
+            self.assertEqual(self.gate.take_client(MOMENT, b"client", asked), event)
+            self.assertEqual(self.gate.pdu(), Pdu.GET)
+
+    def test_bindings_that_are_hidden_are_counted(self):
+        self.learn()
+        self.gate.take_client(MOMENT, b"client", self.ask(2, Level.AUTH_PRIV))
+        outside = snmpsec.binding((1, 0, 8802), 4, b"router")
+        answer = answered(self.gate.next(MOMENT, 1, 1).datagram, HELLO + 2 * outside)
+        self.assertEqual(self.gate.take_device(MOMENT, 0, answer), GateEvent.ANSWERS)
+        self.assertEqual(self.gate.answer()[1:], (Misfit.TOO_MANY, None, 2))
 
     def test_a_device_is_given_up(self):
         self.learn()

@@ -143,6 +143,8 @@ pub struct GateInfo {
     pub is_report: u64,
     pub misfit: u64,
     pub binding: u64,
+    pub hidden: u64,
+    pub pdu: u64,
 }
 
 #[repr(C)]

@@ -45,10 +45,10 @@ enum Text {
 /// What becomes of a client's datagram that isn't refused.
 #[derive(Clone, Copy, Debug, PartialEq, Eq)]
 pub enum ClientTaken {
-    /// It begins this request.
-    Begins(u64),
+    /// It begins this request. Its PDU has this tag, one of `Pdu`.
+    Begins { request: u64, pdu: u8 },
     /// It asks again what waits: its request is this one.
-    Joins(u64),
+    Joins { request: u64, pdu: u8 },
     /// As many requests wait as may.
     NoRoom,
     /// It is a Set of before whose outcome isn't known.
@@ -99,10 +99,12 @@ fn misfit_of(info: &calls::GateInfo) -> Option<Misfit> {
 /// What becomes of a device's datagram.
 #[derive(Clone, Copy, Debug, PartialEq, Eq)]
 pub enum DeviceTaken {
-    /// It is the answer to what the device was asked for this request; and why it doesn't fit, if it has no error and doesn't.
+    /// It is the answer to what the device was asked for this request; why it doesn't fit, if it has no error and doesn't; and how many
+    /// of its bindings are hidden from the request's user: their names aren't in the read view. Of an answer to a Set that is 0.
     Answers {
         request: u64,
         misfit: Option<Misfit>,
+        hidden: u64,
     },
     /// Nothing waits for it.
     NotWaitedFor,
@@ -262,12 +264,24 @@ impl Gate {
             )
         })?;
         Ok(match event {
-            it if it == Event::GateBegins as u32 => ClientTaken::Begins(self.numbers()?.request),
-            it if it == Event::GateJoins as u32 => ClientTaken::Joins(self.numbers()?.request),
+            it if it == Event::GateBegins as u32 => {
+                let (request, pdu) = self.asked()?;
+                ClientTaken::Begins { request, pdu }
+            }
+            it if it == Event::GateJoins as u32 => {
+                let (request, pdu) = self.asked()?;
+                ClientTaken::Joins { request, pdu }
+            }
             it if it == Event::GateNoRoom as u32 => ClientTaken::NoRoom,
             it if it == Event::GateSetOfBefore as u32 => ClientTaken::SetOfBefore,
             other => return Err(Error::Other(other as i32)),
         })
+    }
+
+    /// The request for which the message waits that was taken last, and the tag of its PDU.
+    fn asked(&mut self) -> Result<(u64, u8), Error> {
+        let info = self.numbers()?;
+        Ok((info.request, info.pdu as u8))
     }
 
     /// Takes a datagram of the device at this position, from 0. The error is OutOfMemory.
@@ -294,6 +308,7 @@ impl Gate {
                 DeviceTaken::Answers {
                     request: info.request,
                     misfit: misfit_of(&info),
+                    hidden: info.hidden,
                 }
             }
             it if it == Event::GateNotWaitedFor as u32 => DeviceTaken::NotWaitedFor,

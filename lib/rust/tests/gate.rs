@@ -91,14 +91,17 @@ fn a_request_goes_to_its_device_and_back() {
     both.learn();
     for (id, level) in [(2, Level::NoAuthNoPriv), (3, Level::AuthPriv)] {
         let message = both.ask(id, level);
-        let Ok(ClientTaken::Begins(number)) = both.gate.take_client(NOW, b"client", &message)
-        else {
+        let taken = both.gate.take_client(NOW, b"client", &message);
+        let Ok(ClientTaken::Begins { request: number, pdu }) = taken else {
             panic!("a request begins");
         };
-        assert_eq!(
-            both.gate.take_client(NOW, b"client", &message),
-            Ok(ClientTaken::Joins(number))
-        );
+        assert_eq!(pdu, Pdu::GetRequest as u8);
+        let joins = ClientTaken::Joins {
+            request: number,
+            pdu,
+        };
+        let again = both.gate.take_client(NOW, b"client", &message);
+        assert_eq!(again, Ok(joins));
         assert_eq!(both.gate.waiting(), Ok(1));
         let Some(Sent::ToDevice {
             device: 0,
@@ -117,7 +120,8 @@ fn a_request_goes_to_its_device_and_back() {
             both.gate.take_device(NOW, 0, &answer),
             Ok(DeviceTaken::Answers {
                 request: number,
-                misfit: None
+                misfit: None,
+                hidden: 0
             })
         );
         assert_eq!(
@@ -178,6 +182,26 @@ fn an_answer_of_another_name_is_told() {
         index: 0,
     };
     assert_eq!(says, Some(gen_err));
+}
+
+#[test]
+fn bindings_that_are_hidden_are_counted() {
+    let mut both = both();
+    both.learn();
+    let message = both.ask(2, Level::AuthPriv);
+    both.gate.take_client(NOW, b"client", &message).unwrap();
+    let Some(Sent::ToDevice { datagram, .. }) = both.next(1) else {
+        panic!("the device is asked");
+    };
+    let seen = binding(&SYS_NAME, 4, b"router").unwrap();
+    let outside = binding(&[1, 0, 8802], 4, b"router").unwrap();
+    let list = [seen, outside.clone(), outside].concat();
+    let Ok(DeviceTaken::Answers { misfit, hidden, .. }) =
+        both.gate.take_device(NOW, 0, &answer(&datagram, &list))
+    else {
+        panic!("it is the answer");
+    };
+    assert_eq!((misfit, hidden), (Some(Misfit::TooMany), 2));
 }
 
 #[test]

@@ -74,7 +74,8 @@ class ConfigPlace(ctypes.Structure):
 
 
 class GateInfo(ctypes.Structure):
-    _fields_ = [(name, c_uint64) for name in ("request", "device", "waiting", "status", "index", "is_report", "misfit", "binding")]
+    _fields_ = [(name, c_uint64) for name in ("request", "device", "waiting", "status", "index", "is_report", "misfit", "binding", "hidden",
+                                            "pdu")]
 
 
 class ForwardInfo(ctypes.Structure):

@@ -15,8 +15,8 @@ import ctypes
 from enum import IntEnum
 from typing import List, NamedTuple, Optional, Sequence, Union
 
-from . import (Access, BadConfiguration, Buffer, NothingTaken, Path, Refusal, Refused, _arcs, _copied, _Counting, _done, _library, _Object, _octets,
-               _ranged, _refusal, wiped)
+from . import (Access, BadConfiguration, Buffer, NothingTaken, Path, Pdu, Refusal, Refused, _arcs, _copied, _Counting, _done, _library, _Object,
+               _octets, _ranged, _refusal, wiped)
 from ._library import CALLS
 
 __all__ = ["Gate", "GateAnswer", "GateDevice", "GateEvent", "GateReceiver", "GateSent", "Misfit", "datagram_user", "gate_fault"]
@@ -60,11 +60,12 @@ class Misfit(IntEnum):
 
 class GateAnswer(NamedTuple):
     """A device's answer to what it was asked for a request: why it doesn't fit, if it has no error and doesn't, and the number of its binding from 1, or
-    None."""
+    None; and how many of its bindings are hidden from the request's user, whose read view doesn't have their names: 0 for an answer to a Set."""
 
     request: int
     misfit: Optional[Misfit]
     binding: Optional[int]
+    hidden: int
 
 
 class GateSent(NamedTuple):
@@ -166,6 +167,10 @@ class Gate(_Counting):
         answer = self._call("take_client", _ranged(now, 64), *_octets(client, datagram), ctypes.byref(event))
         return _refusal(answer) or GateEvent(event.value)
 
+    def pdu(self) -> Pdu:
+        """By which PDU the message asks that the last call took, where that was BEGINS or JOINS."""
+        return Pdu(self._numbers().pdu)
+
     def take_device(self, now: int, device: int, datagram: Buffer) -> GateEvent:
         """Takes a datagram of the device at this position, from 0."""
         event = _library.Enumeration()
@@ -175,7 +180,7 @@ class Gate(_Counting):
     def answer(self) -> GateAnswer:
         """What the answer is that the last call took, where that was ANSWERS."""
         info = self._numbers()
-        return GateAnswer(info.request, Misfit(info.misfit) if info.misfit else None, info.binding or None)
+        return GateAnswer(info.request, Misfit(info.misfit) if info.misfit else None, info.binding or None, info.hidden)
 
     def next(self, now: int, salt: int, ask_id: int) -> Optional[GateSent]:
         """Does the first thing that is due, or None. It is called until then, each time with another salt and ask_id."""

@@ -20,6 +20,7 @@ use Rattle.snmp_gate.proofs.Same.{same_messages}
 use Rattle.snmp_gate.proofs.Todos.{timely_set}
 use Rattle.std.proofs.lemmas.List.{get_or_default}
 use Rattle.snmp_gate.specs.Fits.{FitsRequest, WorkFits}
+use Rattle.snmp_gate.specs.Hidden.{HidesInRequest, WorkHides}
 use Rattle.snmp_gate.specs.Messages.{seen_in}
 use Rattle.snmp_gate.proofs.gate.Gate.take_device.Goals as goal
 
@@ -37,8 +38,8 @@ returns-clause-happens c since before later stands =
     at.within c.index_mut-request.ensures.value waits
     at.id_is c.in-Some.ensures
     (subst (λ (x : WaitingRequest WaitingMessage Work). HoldsAt (λ (d : Device). IsCommunityOfWork d c.in-Some.answer.community.now x.work) g.devices.list.items c.args.device) (sym c.index_mut-request.ensures.value) (at.pays r))
-    (λ o q told asked is says known. subst (λ (t : Tables). WorkAfter t q told o w) c.tables.ensures
-    (c.in_ok-fault.ensures.after o q told asked is says (subst (λ (t : Tables). TaskStands t q told o.task.task) (sym c.tables.ensures) known)))
+    (λ o q told asked is says known. subst (λ (t : Tables). WorkAfter t q told o w) c.tables-tables.ensures
+    (c.in_ok-fault.ensures.after o q told asked is says (subst (λ (t : Tables). TaskStands t q told o.task.task) (sym c.tables-tables.ensures) known)))
     stands.requests in
     let now = answered r.number c.args.device (pdu_of c.in-Some.answer.pdu) c.args.datagram.now in
     let s : WaitingRequest WaitingMessage Work = record { number = r.number; first = r.first; others = r.others; work = w } in (
@@ -121,7 +122,7 @@ returns-clause-fits c =
     let fault = c.in_ok-fault.fault in
     let waits = subst (λ (x : WaitingRequest WaitingMessage Work). WaitsFor c.args.device id x.work) (sym c.index_mut-request.ensures.value) (at.waits r) in
     let fits : FitsRequest g c.args.device id r.number answer fault r =
-    (refl, waits, λ q asked. subst (λ (t : Tables). WorkFits (seen_in t q) r.work answer fault) c.tables.ensures (c.in_ok-fault.ensures.fits q asked)) in
+    (refl, waits, λ q asked. subst (λ (t : Tables). WorkFits (seen_in t q) r.work answer fault) c.tables-tables.ensures (c.in_ok-fault.ensures.fits q asked)) in
     record {
       community = c.in-Some.answer.community.now;
       answer = answer;
@@ -131,4 +132,28 @@ returns-clause-fits c =
       place = place;
       within = at.within;
       fits = λ d. subst (FitsRequest g c.args.device id r.number answer fault) (c.index_mut-request.ensures.value ∙ get_or_default rs place r d at.within) fits;
+    }
+
+pub returns-clause-hidden : goal.returns-clause-hidden
+returns-clause-hidden c =
+    let g = c.args.self.now in
+    let rs = g.requests.list.items in
+    let place = c.in-Some-place_of.place in
+    let id = c.in-Some-place_of.id in
+    let at = c.in-Some-place_of.ensures.place in
+    let r = c.index_mut-request.result.now in
+    let answer = pdu_of c.in-Some.answer.pdu in
+    let n = c.hidden_in-hidden.result in
+    let waits = subst (λ (x : WaitingRequest WaitingMessage Work). WaitsFor c.args.device id x.work) (sym c.index_mut-request.ensures.value) (at.waits r) in
+    let hides : HidesInRequest g c.args.device id r.number answer n r =
+    (refl, waits, λ q asked. subst (λ (t : Tables). WorkHides (seen_in t q) r.work answer n) c.tables-tables.ensures (c.hidden_in-hidden.ensures q asked)) in
+    record {
+      community = c.in-Some.answer.community.now;
+      answer = answer;
+      is_answer = c.in-Some.ensures;
+      id = id;
+      id_is = at.id_is;
+      place = place;
+      within = at.within;
+      hides = λ d. subst (HidesInRequest g c.args.device id r.number answer n) (c.index_mut-request.ensures.value ∙ get_or_default rs place r d at.within) hides;
     }
