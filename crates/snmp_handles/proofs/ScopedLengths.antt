@@ -1,5 +1,5 @@
 -- A ScopedPDU is at least as long as its data. So it is too long where its PDU is.
-use Rattle.std.proofs.Common.{◌≡◌, ◌<◌, ◌≤◌, ◌++◌, ◌⊎◌, inl, inr, ℕ, List, length, arith}
+use Rattle.std.proofs.Common.{◌≡◌, ◌<◌, ◌≤◌, ◌++◌, inl, inr, ℕ, List, length, arith}
 use Rattle.std.proofs.lemmas.List.{length-append}
 use Rattle.snmp_ber.specs.Spelling.{element, head_of}
 use Rattle.snmp_message.specs.declared.message.TheConstants.{LARGEST}

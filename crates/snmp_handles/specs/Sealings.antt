@@ -3,7 +3,7 @@
 --
 -- `Sealing`: how it is sealed, and for whom. `sealed_as`: the message. `HasNoHeader`, `IsUnsealable`: a number,
 -- a length or the ScopedPDU is out of its range. `SealsHeld`: the message is left to be sent.
-use Rattle.std.specs.Prelude.{◌≡◌, ◌<◌, ◌⊎◌, ℕ, Bool, List, length, Some, None, Option, Result, Ok, Err, IfSome}
+use Rattle.std.specs.Prelude.{◌≡◌, ◌<◌, ◌⊎◌, ℕ, Bool, List, length, Some, None, Result, Ok, Err, IfSome}
 use Rattle.snmp_ber.specs.Element.{IsElement}
 use Rattle.snmp_ber.specs.declared.level.Level.{Level}
 use Rattle.snmp_ber.specs.declared.number.TheConstants.{MAX_INTEGER32}

@@ -41,6 +41,37 @@
 //! # }
 //! ```
 //!
+//! [`scoped_pdu`] and [`Manager::seal`] make messages that no well-behaved manager sends, for programs that test agents:
+//!
+//! ```
+//! use snmpsec::{scoped_pdu, Clock, Level, Manager, Pdu, ScopedPdu, Sealing, NO_CLOCKS};
+//! # fn main() -> Result<(), snmpsec::Error> {
+//! let engine = b"\x80\0\x1f\x88\x04example";
+//! let mut manager = Manager::new(b"[[user]]\nname = 'eve'\n", NO_CLOCKS, 0)?;
+//! let scoped = scoped_pdu(&ScopedPdu {
+//!     pdu: Pdu::GetBulkRequest,
+//!     request_id: -1,
+//!     error_status: -1, // non-repeaters
+//!     error_index: 10,  // max-repetitions
+//!     context_engine: engine,
+//!     context_name: b"",
+//!     bindings: b"",
+//! })?;
+//! let sealing = Sealing {
+//!     message_id: 1,
+//!     max_size: 484,
+//!     is_reportable: false,
+//!     level: Level::NoAuthNoPriv,
+//!     engine,
+//!     user: b"eve",
+//!     clock: Clock { boots: 0, time: 0 },
+//! };
+//! manager.seal(&sealing, &scoped, 0)?;
+//! assert!(manager.message()?.ends_with(&scoped));
+//! # Ok(())
+//! # }
+//! ```
+//!
 //! A configuration that is refused is [`Error::BadConfiguration`], and [`config_fault`] says where and why:
 //!
 //! ```

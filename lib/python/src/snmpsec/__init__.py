@@ -21,6 +21,8 @@ snmpsec.gate has the gateway, and snmpsec.forward what sends Traps of its device
     text = open_text(key[:16], boots, time, salt, sealed)
     code = mac(AuthProtocol.SHA1, key, front, 12, back)     # of what stands before and behind the code
 
+scoped_pdu and Manager.seal make messages that no well-behaved manager sends, for programs that test agents.
+
 A handle may be used by several threads: each call waits for the one before it. Two calls that belong together, as take and message, want a lock of
 yours, or a handle for each thread. Handles share nothing. In a forked child of a process with threads no handle is used.
 
