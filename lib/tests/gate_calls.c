@@ -57,7 +57,7 @@ static void said(void) {
 static void nobody_answered(void) {
     snmpsec_gate *gate;
     snmpsec_gate_event event = SNMPSEC_GATE_BEGINS;
-    snmpsec_gate_info info = {1, 1, 1, 1, 1, 1, 1, 1, 1};
+    snmpsec_gate_info info = {1, 1, 1, 1, 1, 1, 1, 1, 1, 1};
     static const snmpsec_gate_info none;
     int why = 0;
     check("read", 0, read_of(text, &gate));
