@@ -86,7 +86,7 @@ test_lines_of_refusals() {
 test_counts_told() {
     kill -USR1 "$gate"
     for _ in {1..200}; do [ -s "$counts" ] && break; sleep 0.1; done
-    counted "messages by their PDU" 'snmpsec_gate_messages_total{pdu="set"} 0'
+    counted "messages by their PDU" 'snmpsec_gate_messages_total{pdu="set"} 4'
     counted "a device's asks that were repeated" 'snmpsec_gate_device_total{device="pdu",event="asked_again"} 2'
     counted "that it was given up" 'snmpsec_gate_device_total{device="pdu",event="given_up"} 2'
     counted "what nothing waited for" 'snmpsec_gate_device_total{device="pdu",event="not_waited_for"} 1'
