@@ -109,7 +109,7 @@ def answered(manager, channel):
 
 
 def many(asker):
-    asker.socket.settimeout(1)
+    asker.socket.settimeout(5)
     with snmpsec.Manager(asker.config) as manager:
         def ask(level, octets, request_id):
             token = manager.ask(int(time.time()), Pdu.GET, engine=engine, user=asker.user, level=level, octets=octets, salt=salt(),
