@@ -7,8 +7,8 @@
 -- `TakesClient`, `TakesDevice`, `SendsNext`: what becomes of a datagram and what goes out, with what happens by it
 -- and that it is lawful after what happened before (`ClientHappens`, `DeviceHappens`, `SendHappens`). `RunsOut`:
 -- there was no memory. `Empties`: all is given back.
-use Rattle.std.specs.Prelude.{◌≡◌, ◌<◌, ◌≤◌, ◌⊎◌, ⊤, ℕ, List, [], map, Option, Some, None, option_map, Result, Ok, Err, MatchOption}
-use Rattle.std.specs.Prelude.{replicate, string_bytes}
+use Rattle.std.specs.Prelude.{◌≡◌, ◌<◌, ◌≤◌, ◌⊎◌, ⊤, ℕ, List, [], map, Option, Some, None, option_map, Result, Ok, Err}
+use Rattle.std.specs.Prelude.{MatchOption, replicate, string_bytes}
 use Rattle.engine_clock.specs.Pairs.{pair_max}
 use Rattle.usm_users.specs.User.{User}
 use Rattle.usm_users.specs.declared.load.UserRow.{UserRow}

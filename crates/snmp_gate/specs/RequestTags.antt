@@ -1,7 +1,7 @@
 -- By which PDU a request asks (RFC 3416, section 3).
 --
--- `IsRequestOf`: the place of the request with a number. `IsNumberOfNone`: none has it. `IsTagOf`: the tag of the PDU by
--- which the messages of the request with this number ask.
+-- `IsRequestOf`: the place of the request with a number. `IsNumberOfNone`: none has it. `IsTagOf`: the tag of the PDU
+-- by which the messages of the request with this number ask.
 use Rattle.std.specs.Prelude.{◌≡◌, ◌≢◌, ◌<◌, ℕ, List, All, Some, length}
 use Rattle.std.specs.List.{HoldsAt}
 use Rattle.snmp_gate.specs.Messages.{question_in}
