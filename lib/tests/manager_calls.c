@@ -289,6 +289,29 @@ static void sealed_and_read(void) {
     snmpsec_manager_free(manager);
 }
 
+/* SEQUENCEs that are no scopedPDU, or whose data is no PDU, and how an agent refuses them. */
+static void sealed_and_refused(void) {
+    static const struct { const char *name; uint32_t level; int expected; struct text scoped; } junk[] = {
+        {"an empty SEQUENCE, plain", 1, SNMPSEC_NOT_SCOPED, {"\x30\0", 2}},
+        {"an empty SEQUENCE, signed", 2, SNMPSEC_NOT_SCOPED, {"\x30\0", 2}},
+        {"an empty SEQUENCE, sealed", 3, SNMPSEC_BAD_SCOPED, {"\x30\0", 2}},
+        {"a NULL for a PDU, plain", 1, SNMPSEC_BAD_PDU, {"\x30\6\4\0\4\0\5\0", 8}},
+        {"a NULL for a PDU, sealed", 3, SNMPSEC_BAD_PDU, {"\x30\6\4\0\4\0\5\0", 8}},
+    };
+    snmpsec_agent *agent = NULL;
+    snmpsec_manager *manager = NULL;
+    check("agent", 0, snmpsec_agent_new(config, config_len, engine, sizeof engine, BOOTS, NOW - TIME, &agent));
+    check("new", 0, begin(&manager));
+    for (size_t i = 0; i < sizeof junk / sizeof *junk; i++) {
+        const struct row row = {"", 0, 7, LEAST, junk[i].level, BOOTS, TIME, "ann", 0};
+        check("seal", 0, sealed_by(manager, &row, true, &junk[i].scoped));
+        struct text message = message_of(manager);
+        check(junk[i].name, junk[i].expected, snmpsec_agent_take(agent, NOW, message.octets, message.len));
+    }
+    snmpsec_agent_free(agent);
+    snmpsec_manager_free(manager);
+}
+
 /* A message outside of the time window is reported exactly where it says so. What is waited for stays. */
 static void reported_or_not(void) {
     const struct row late = {"", 0, 7, GREATEST, 2, BOOTS + 1, TIME, "ann", 0};
@@ -358,6 +381,7 @@ int main(int argc, char **argv) {
     seal_arguments();
     refused_memory();
     sealed_and_read();
+    sealed_and_refused();
     reported_or_not();
     replayed(argv[3]);
     return checks_told();

@@ -1,6 +1,6 @@
 //! A ScopedPDU that a caller has sealed as it says.
 
-ghost use Rattle.std.specs.Prelude.{◌≡◌, MatchBool, MatchOption};
+ghost use Rattle.std.specs.Prelude.{MatchBool, MatchOption};
 ghost use Rattle.std.specs.Int.{to_be_bytes, w64};
 ghost use Rattle.snmp_handles.specs.Sealings.{HasHeader, HasNoHeader, IsSequence, SealsHeld, sealing_of};
 
