@@ -145,7 +145,6 @@ static void write_all(FILE *to, const struct told *told) {
     write_one(to, "unlogged_total", "counter", counts->unlogged);
     write_statuses(to, "answers_total", counts->statuses);
     write_misfits(to, counts->misfits);
-    fputs("# HELP snmpsec_gate_hidden_bindings_total Bindings of devices' answers, not to Sets, whose names the user may not read.\n", to);
     write_one(to, "hidden_bindings_total", "counter", counts->hidden_bindings);
     write_statuses(to, "responses_total", counts->responses);
     if (told->forward) write_traps(to, told);

@@ -101,7 +101,7 @@ test_counts_told() {
     counted "which device that was" 'snmpsec_gate_device_total{device="pdu",event="unfit"} 5'
     counted "one without a name" 'snmpsec_gate_answers_total{error_status="other"} 1'
     counted "a label with quotes" 'snmpsec_gate_device_total{device="a\\x20\"b\\x5cc",event="given_up"} 1'
-    check "each sample is one of Prometheus" "" "$(grep -v -E '^(# HELP [a-z_]+ .+|# TYPE [a-z_]+ (counter|gauge)|[a-z_]+(\{[a-z_]+="([^"\\]|\\.)*"(,[a-z_]+="([^"\\]|\\.)*")*\})? [0-9]+)$' "$counts")"
+    check "each sample is one of Prometheus" "" "$(grep -v -E '^(# TYPE [a-z_]+ (counter|gauge)|[a-z_]+(\{[a-z_]+="([^"\\]|\\.)*"(,[a-z_]+="([^"\\]|\\.)*")*\})? [0-9]+)$' "$counts")"
     kill -HUP "$gate"
     tells "the file is read anew" 'is read anew$'
     rm -f "$counts"
