@@ -73,7 +73,7 @@ TellsMayNotify receiver device arcs old new answer = (new ≡ old)
 abbrev pub TellsNumbersOf : List ℕ → List ℕ → GateHeld → GateHeld → ℤ → Type 0
 TellsNumbersOf out out_new old new answer = (new ≡ old)
     × (((answer ≡ pos 0) × (10 ≤ length out) × (out_new ≡ numbers_of old ++ drop 10 out))
-    ⊎ ((answer ≡ fault_code ShortBuffer) × (length out < 9) × (out_new ≡ out)))
+    ⊎ ((answer ≡ fault_code ShortBuffer) × (length out < 10) × (out_new ≡ out)))
 
 abbrev pub GateCounter : ℕ → GateHeld → GateHeld → ℤ → Type 0
 GateCounter n old new answer = (new ≡ old)
