@@ -127,7 +127,7 @@ test_killed_agent() { # four side by side
         check "boots never fall" "$(sort -n "$work/kills$n")" "$(cat "$work/kills$n")"
         grew=$((grew + $(sort -nu "$work/kills$n" | wc -l)))
     done
-    if [ $is_proved = yes ]; then check "some starts got so far" yes "$([ $grew -gt 20 ] && echo yes)"; fi
+    if [ $is_proved = yes ]; then check "some starts got so far" yes "$([ $grew -gt 4 ] && echo yes)"; fi
     echo "agent: 200 starts killed at random, $grew boots"
 }
 
