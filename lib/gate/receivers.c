@@ -148,13 +148,16 @@ static void take_datagram(struct gateway *gateway, size_t receiver, size_t len) 
         line("refused %d %s from a receiver, %s (not authenticated)", refusal, snmpsec_error_name(refusal), gateway->receivers[receiver].words);
 }
 
-/* A receiver that is off answers by ICMP: that is an error of its socket, and what waits for it is sent again as if nothing had come. */
+/* A receiver that is off answers by ICMP: that is an error of its socket, and what waits for it is sent again as if nothing had come. What is due by a
+ * datagram goes out before the next is taken: a request for an engine's time has no answer if another Inform has learned that time before it is sent. */
 void hear_receiver(struct gateway *gateway, size_t receiver) {
     if (receiver >= gateway->receivers_len) return;
     for (int i = 0; i < MOST_AT_ONCE; i++) {
         ssize_t len = recv(gateway->receivers[receiver].socket, datagram, sizeof datagram, 0);
         if (len < 0 && errno != ECONNREFUSED) return;
-        if (len >= 0 && gateway->forward && !gateway->out_of_memory) take_datagram(gateway, receiver, (size_t)len);
+        if (len < 0 || !gateway->forward || gateway->out_of_memory) continue;
+        take_datagram(gateway, receiver, (size_t)len);
+        send_notifications(gateway);
     }
 }
 
