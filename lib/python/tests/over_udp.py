@@ -110,11 +110,13 @@ def answered(manager, channel):
 
 def many(asker):
     asker.socket.settimeout(5)
+    sent = {}
     with snmpsec.Manager(asker.config) as manager:
         def ask(level, octets, request_id):
             token = manager.ask(int(time.time()), Pdu.GET, engine=engine, user=asker.user, level=level, octets=octets, salt=salt(),
                                 message_id=asker.id, request_id=request_id)
-            asker.socket.send(manager.message())
+            sent[token] = manager.message()
+            asker.socket.send(sent[token])
             return token
 
         discovery = manager.ask_discovery(asker.id)
@@ -127,7 +129,14 @@ def many(asker):
             found, _ = next(answered(manager, asker.socket))
             assert found == snmpsec.Answered(unsealed, False, 2, True) and manager.give_up(unsealed)
         waits = {ask(asker.level, QUESTION, request_id): request_id for request_id in range(1000, 1200)}
-        right = sum(found.is_response and waits.pop(found.token) == request_id for found, request_id in answered(manager, asker.socket))
+        right = 0
+        asker.socket.settimeout(1)
+        for _ in range(5):  # (a socket has room for some of them only, so what has no answer is sent again)
+            right += sum(found.is_response and waits.pop(found.token) == request_id for found, request_id in answered(manager, asker.socket))
+            if not waits:
+                break
+            for token in waits:
+                asker.socket.send(sent[token])
         print(f"{right} answered, {len(waits)} wait")
 
 
