@@ -217,24 +217,41 @@
 //!     originator.take_receiver(5_000, 1, &answer)
 //! }
 //!
-//! let mut originator = originator(rt.alloc())?;
-//! let mut receiver = receiver(rt.alloc())?;
-//! assert_eq!(rt; originator.take_trap(0, TRAP)?, TrapTaken::Waits(0));
-//! let trap = originator.next(5_000, [1; 8], 7)?;
-//! assert_eq!(rt; trap_for(trap), Some(0));
-//! let begins = originator.next(5_000, [2; 8], 8)?;
-//! assert_eq!(rt; inform_for(begins), Some(1));
-//! assert_eq!(rt;
-//!     (originator.waiting(), originator.informs(), originator.due()),
-//!     (0, 1, Some(0))
-//! );
-//! let discovered = exchanged(&mut originator, &mut receiver, 3)?;
-//! let timed = exchanged(&mut originator, &mut receiver, 4)?;
-//! let acknowledged = exchanged(&mut originator, &mut receiver, 5)?;
-//! assert_eq!(rt; discovered, ReceiverTaken::Heard(0));
-//! assert_eq!(rt; timed, ReceiverTaken::Heard(0));
-//! assert_eq!(rt; acknowledged, ReceiverTaken::Acknowledged(0));
-//! assert_eq!(rt; (originator.informs(), originator.due()), (0, None));
+//! /// What becomes of a device's Trap, and the receivers of the Trap and of the Inform that it becomes.
+//! type Notified = (TrapTaken, Option<usize>, Option<usize>);
+//!
+//! fn notified(originator: &mut Originator) -> Result<Notified, AllocError> {
+//!     let taken = originator.take_trap(0, TRAP)?;
+//!     let trap = trap_for(originator.next(5_000, [1; 8], 7)?);
+//!     let begins = inform_for(originator.next(5_000, [2; 8], 8)?);
+//!     Ok((taken, trap, begins))
+//! }
+//!
+//! /// What becomes of the receiver's answers: to the discovery, to the question for its time, and to the Inform.
+//! type Answered = (ReceiverTaken, ReceiverTaken, ReceiverTaken);
+//!
+//! fn answered(originator: &mut Originator, receiver: &mut Agent) -> Result<Answered, AllocError> {
+//!     let discovered = exchanged(originator, receiver, 3)?;
+//!     let timed = exchanged(originator, receiver, 4)?;
+//!     let acknowledged = exchanged(originator, receiver, 5)?;
+//!     Ok((discovered, timed, acknowledged))
+//! }
+//!
+//! /// What becomes of a Trap and of its Inform, and how many Informs wait in the end.
+//! fn sent_on(alloc: Global) -> Result<(Notified, Answered, usize), AllocError> {
+//!     let mut originator = originator(alloc)?;
+//!     let mut receiver = receiver(alloc)?;
+//!     let of_trap = notified(&mut originator);
+//!     let of_inform = answered(&mut originator, &mut receiver);
+//!     let left = originator.informs();
+//!     Ok((of_trap?, of_inform?, left))
+//! }
+//!
+//! let (notified, answered, left) = sent_on(rt.alloc())?;
+//! let heard = ReceiverTaken::Heard(0);
+//! assert_eq!(rt; notified, (TrapTaken::Waits(0), Some(0), Some(1)));
+//! assert_eq!(rt; answered, (heard, heard, ReceiverTaken::Acknowledged(0)));
+//! assert_eq!(rt; left, 0);
 //! ```
 #![tactic(auto)]
 
