@@ -491,9 +491,10 @@ typedef enum snmpsec_misfit {
     SNMPSEC_MISFIT_NO_VALUE = 5, SNMPSEC_MISFIT_AFTER_END = 6
 } snmpsec_misfit;
 /* The request and the device that the last call was about, where it was about one, and how many requests wait. Then what the last call told, and 0 for
- * what it didn't tell. SNMPSEC_GATE_BEGINS, SNMPSEC_GATE_JOINS: the PDU by which the message asks, an snmpsec_pdu. SNMPSEC_GATE_TO_CLIENT: error-status and error-index of the Response, or is_report is 1. SNMPSEC_GATE_ANSWERS: why the answer
- * doesn't fit, an snmpsec_misfit, and the number of the answer's binding from 1, or 0; and how many of its bindings are hidden: the user may not read
- * variables of their names. Of an answer to a Set that is 0. */
+ * what it didn't tell. SNMPSEC_GATE_BEGINS, SNMPSEC_GATE_JOINS: the PDU by which the message asks, an snmpsec_pdu. SNMPSEC_GATE_TO_CLIENT: error-status
+ * and error-index of the Response, or is_report is 1. SNMPSEC_GATE_ANSWERS: why the answer doesn't fit, an snmpsec_misfit, and the number of the
+ * answer's binding from 1, or 0; and how many of its bindings are hidden: the user may not read variables of their names. Of an answer to a Set that
+ * is 0. */
 typedef struct snmpsec_gate_info { uint64_t request, device, waiting, status, index, is_report, misfit, binding, hidden, pdu; } snmpsec_gate_info;
 SNMPSEC_CHECK int snmpsec_gate_numbers(snmpsec_gate *gate, snmpsec_gate_info *out);
 /* The agent's counters. */
