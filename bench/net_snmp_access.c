@@ -2,7 +2,7 @@
 
    net_snmp_access ROWS WILD MASKS ARCS KIND ASKS
 
-   The rows are those of crates/bench_access of the shape `one`, and so are the questions: ROWS rows of each table, all family rows of one
+   The rows are those of crates/bench_times (access) of the shape `one`, and so are the questions: ROWS rows of each table, all family rows of one
    view; each WILDth of them has a wildcard (0: none), with MASKS different masks in turn; a question is for a variable of ARCS arcs, which
    a row has (`hit`) or none (`miss`). Each question is asked as snmpd asks it: the group of the name, the access row, and the view's row.
    It prints how many questions were allowed and how many were not in view, and the nanoseconds of the processor that one took. */

@@ -149,7 +149,7 @@ static void take_datagram(struct gateway *gateway, size_t receiver, size_t len) 
 }
 
 /* A receiver that is off answers by ICMP: that is an error of its socket, and what waits for it is sent again as if nothing had come. What is due by a
- * datagram goes out before the next is taken: a request for an engine's time has no answer if another Inform has learned that time before it is sent. */
+ * datagram goes out before the next is taken. */
 void hear_receiver(struct gateway *gateway, size_t receiver) {
     if (receiver >= gateway->receivers_len) return;
     for (int i = 0; i < MOST_AT_ONCE; i++) {

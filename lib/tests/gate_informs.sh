@@ -87,6 +87,19 @@ test_informs_away() {
     in_file "and acknowledges it" "$traps/err" ": acknowledged by user sha256-priv"
 }
 
+# Two users at one engine, and the Report that tells the time is lost for one of them. When it is asked for the time again, the other one's Inform has
+# learned it: what would be within the time window then is no notification, and snmptrapd wouldn't answer it.
+test_informs_of_two_users() {
+    local user
+    begin_lines
+    echo lost > "$traps/word"
+    notifies 127.0.0.2 other 97 $link_down
+    for user in sha256-auth sha1-auth; do
+        in_file "a Report on the time is lost: $user acknowledges" "$traps/err" ": acknowledged by user $user at 127.0.0.1:$proxy_at"
+    done
+    echo nothing > "$traps/word"
+}
+
 # What comes late, twice, forged or from another address ends no Inform, and the true answer does.
 test_informs_troubled() {
     local word
@@ -161,6 +174,9 @@ else
         bound "$proxy_at"
         begin_informs "sha256-auth authNoPriv $proxy_at inform" "sha1-priv authPriv $away_at inform"
         test_informs_troubled
+        end_informs
+        begin_informs "sha256-auth authNoPriv $proxy_at inform" "sha1-auth authNoPriv $proxy_at inform"
+        test_informs_of_two_users
         end_informs
         kill "$proxy"
         check "the proxy says nothing wrong" "" "$(cat "$traps/proxied")"

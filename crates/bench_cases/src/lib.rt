@@ -1,4 +1,4 @@
-//! The operations that `bench_operations` times, and what each needs.
+//! The operations that `bench_times` times, and what each needs.
 #![tactic(auto)]
 
 mod answering;

@@ -10,7 +10,7 @@ ghost use Rattle.capture_files.specs.Datagrams.{streams};
 ghost use Rattle.capture_files.specs.Tally.{counts_of};
 
 use crate::forms::ReadOptions;
-use capture_files::{CaptureFault, Printer, Tally, print_datagrams_behind};
+use capture_files::{CaptureFault, Printer, SNMP_PORTS, Tally, print_datagrams_behind};
 use snmp_ber::read_decimal;
 use snmpsec_io::write_whole;
 use std::alloc::{AllocError, AllocFailed, Global};
@@ -30,9 +30,6 @@ pub enum Unread {
     #[error("out of memory")]
     OutOfMemory,
 }
-
-/// The ports of SNMP: requests, and notifications.
-const SNMP: [u16; 2] = [161, 162];
 
 /// A port of UDP, 0 to 65535, in decimal without sign or leading zeros.
 fn port_of(word: &str) -> Option<u16>
@@ -76,7 +73,7 @@ pub fn ports_of<'a>(alloc: Global, words: &[&'a str]) -> Result<Vec<u16>, PortsF
     ensures none { IfErr result (TellsNoPorts (map (λ word. word.now) words.now)) }
 {
     if words.is_empty() {
-        return Ok(SNMP.to_vec(alloc)?);
+        return Ok(SNMP_PORTS.to_vec(alloc)?);
     }
     let mut ports = Vec::new(alloc);
     for word in words {

@@ -1,26 +1,27 @@
 //! The datagrams of a capture, as the lines of a log.
 
 ghost use Rattle.std.specs.Prelude.{◌≡◌, ◌+◌, ◌<◌, ◌≤◌, List, ℕ, Option, length, IfOk, IfErr, IfSome, OnOk};
-ghost use Rattle.std.specs.Prelude.{option_map, string_bytes, vec_len};
+ghost use Rattle.std.specs.Prelude.{option_map, vec_len};
 ghost use Rattle.std.specs.Io.KnownBytes.{Appends, Consumes, IsAtEnd};
 ghost use Rattle.capture_files.specs.Formats.{state_of};
 ghost use Rattle.capture_files.specs.Items.{record_of};
 ghost use Rattle.capture_files.specs.Tally.{IsBelow, counts_of, none_passed};
 ghost use Rattle.capture_files.specs.Datagrams.{IsEnd, IsLogOf, IsSorted, IsSortedRecord, PrintsAs, PrintsLine};
 ghost use Rattle.capture_files.specs.Datagrams.{Stands, StopsDatagram, StopsBy, StopsItems, StopsRecord, StopsWrite};
-ghost use Rattle.capture_files.specs.Datagrams.{WritesDatagram, WritesItem, WritesRecord, log_line, note_line};
-ghost use Rattle.capture_files.specs.Datagrams.{record_from, told_word, streams};
+ghost use Rattle.capture_files.specs.Datagrams.{WritesDatagram, WritesItem, WritesRecord};
+ghost use Rattle.capture_files.specs.Datagrams.{record_from, streams};
 
 use crate::fault::CaptureFault;
 use crate::format::{Begun, begin, read_item};
 use crate::item::{Head, Item, Next};
+use crate::log_lines::note_line;
 use crate::packet::{Found, find_datagram};
 use crate::pcap::HEADER;
 use crate::pcapng::ROOM;
 use crate::printer::{Lines, Printer};
 use crate::tally::{Reason, Tally};
 use snmpsec_io::{read_full, write_whole};
-use std::alloc::{AllocError, Global};
+use std::alloc::Global;
 use std::io::{Read, Write};
 
 /// Where no item is read any more.
@@ -97,38 +98,6 @@ fn sort_record<'a>(captured: Captured<'a>, ports: &[u16]) -> Sorted<'a>
     let whole = head.original as usize <= captured.packet.len();
     let found = find_datagram(u32::from(head.link), captured.packet, whole);
     sort(moment, head.link, found, ports)
-}
-
-/// The words for a record that is reported.
-fn told_word(why: Telling) -> &'static str
-    ensures { result.now ≡ told_word why }
-{
-    match why {
-        Telling::Fragment => "fragment",
-        Telling::CutShort => "cut short",
-        Telling::BadLength => "bad length",
-        Telling::Empty => "empty datagram",
-        Telling::NoMoment => "no moment",
-    }
-}
-
-/// The line of a log for a datagram, `MOMENT HEX` and a line feed, with the moment in decimal and two small
-/// hex digits an octet.
-#[tactic(auto, unfolding(crate::specs::Datagrams::log_line))]
-pub fn log_line(alloc: Global, moment: u64, datagram: &[u8]) -> Result<String, AllocError>
-    ensures { IfOk result (λ text. string_bytes text ≡ log_line moment datagram.now) }
-{
-    let digits = hex::encode(alloc, datagram)?;
-    format!(in alloc; "{moment} {digits}\n")
-}
-
-/// The line that tells a record.
-#[tactic(auto, unfolding(crate::specs::Datagrams::note_line))]
-fn note_line(alloc: Global, number: u64, why: Telling) -> Result<String, AllocError>
-    ensures { IfOk result (λ text. string_bytes text ≡ note_line number why) }
-{
-    let word = told_word(why);
-    format!(in alloc; "snmpsec: record {number}: {word}\n")
 }
 
 /// Writes a datagram as it is printed, behind so many.

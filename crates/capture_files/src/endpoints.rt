@@ -9,6 +9,9 @@ ghost use Rattle.capture_files.specs.declared.packet.Found.{Found as FoundIs};
 use crate::packet::{Found, Network, find_in_ipv4, find_in_ipv6, unframe};
 use std::fmt;
 
+/// The ports of SNMP: of requests, and of notifications (RFC 3417, section 3.1).
+pub const SNMP_PORTS: [u16; 2] = [161, 162];
+
 /// An address of IP.
 #[derive(Clone, Copy, Debug, PartialEq, Eq, Hash)]
 pub enum Address {

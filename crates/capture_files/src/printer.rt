@@ -3,7 +3,7 @@
 ghost use Rattle.std.specs.Prelude.{Bool, ℕ, List, IfOk};
 ghost use Rattle.capture_files.specs.Datagrams.{PrintsAs, PrintsLine};
 
-use crate::datagrams::log_line;
+use crate::log_lines::log_line;
 use std::alloc::{AllocError, Global};
 
 /// What is printed of a datagram.

@@ -21,6 +21,7 @@ use crate::reading::{names_of, says_of};
 use crate::report::Report;
 use crate::unread::{Unread, engine_in, unread_in};
 use crate::views::{Viewed, views_of};
+use capture_files::SNMP_PORTS;
 use diagnose_exchanges::{Asked, Copies, Exchanges, digest_of};
 use diagnose_judge::{Judged, Observer, Verdict};
 use engine_clock::{Clocks, EngineId};
@@ -29,9 +30,6 @@ use snmp_msg::{PduType, Refusal, read_message};
 use snmpsec_access::Explainer;
 use std::alloc::{AllocError, Global};
 use usm_core::Users;
-
-/// The ports of SNMP: requests, and notifications (RFC 3417, section 3.1).
-const SNMP: [u16; 2] = [161, 162];
 
 /// Takes the datagrams of a capture one after another, and makes exchanges of them.
 #[derive(Drop)]
@@ -305,7 +303,8 @@ impl Follower {
             return false;
         }
         match line.route {
-            Some(route) => !SNMP.contains(&route.from.port) || SNMP.contains(&route.to.port),
+            Some(route) => !SNMP_PORTS.contains(&route.from.port)
+                || SNMP_PORTS.contains(&route.to.port),
             None => true,
         }
     }

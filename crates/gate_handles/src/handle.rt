@@ -1,37 +1,30 @@
 //! A gateway with what its configuration says, and what came of the last call.
 
-ghost use Rattle.std.specs.Prelude.{◌≡◌, ℕ, List, [], string_bytes, Ok, IfOk, IfErr};
+ghost use Rattle.std.specs.Prelude.{◌≡◌};
 ghost use Rattle.std.specs.Int.{to_be_bytes, w64};
-ghost use Rattle.snmp_message.specs.declared.refusal.Refusal.TheVariants.{OutOfMemory};
 ghost use Rattle.snmp_agent.specs.Counts.{count_at};
-ghost use Rattle.vacm_core.specs.Tables.{tables_of};
-ghost use Rattle.snmpsec_gate_config.specs.Refusals.{Loads, Refuses, SaysSound};
-ghost use Rattle.snmpsec_gate_config.specs.Rows.{HaveOwnContexts};
 ghost use Rattle.snmp_handles.specs.Parts.{CopiesMessage};
-ghost use Rattle.snmp_handles.specs.declared.fault.CallFault.TheVariants.{Refused};
-ghost use Rattle.gate_handles.specs.Gates.{MakesGate, RefusesConfig, IsAccessOf, IsNewGate, IsEmptyAgent, Empties};
-ghost use Rattle.gate_handles.specs.Gates.{KeepsSaid, IsQuiet, TakesClient, TellsClient, TakesDevice, SendsNext};
-ghost use Rattle.gate_handles.specs.Gates.{IsAgentWithoutUsers, LeavesRequest, ReadsGate, TellsDevice, TellsSent};
+ghost use Rattle.gate_handles.specs.Gates.{MakesGate, Empties};
+ghost use Rattle.gate_handles.specs.Gates.{TakesClient, TakesDevice, SendsNext};
+ghost use Rattle.gate_handles.specs.Gates.{ReadsGate};
 ghost use Rattle.gate_handles.specs.Told.{CountsOf, MayNotify, ReadsSetting, numbers_of};
 
 use crate::event::GateEvent;
-use crate::making::{devices_of, limits_of};
+use crate::gate_parts::{
+    access_of, agent_without_users, config_of, empty_agent, empty_settings, gate_of, rows_of,
+};
 use crate::note::GateNote;
 use crate::setting::{GateText, setting_text};
-use engine_clock::EngineId;
 use snmp_agent::Agent;
 use snmp_ber::{MAX_INTEGER32, Oid};
-use snmp_gate::{ClientTaken, DeviceTaken, Devices, Gate, Sent};
+use snmp_gate::Gate;
 use snmp_handles::{CallFault, copied_message};
 use snmp_msg::Refusal;
 use snmp_outgoing::Counter;
-use snmpsec_gate_config::{
-    DeviceSettings, GateConfig, GateFault, GateRows, GateSettings, GatewayLimits, ReceiverSettings,
-};
-use std::alloc::{AllocError, Global};
+use snmpsec_gate_config::{DeviceSettings, GateConfig, GateRows, GateSettings, ReceiverSettings};
+use std::alloc::Global;
 use std::marker::Model;
-use usm_core::{UserRow, Users};
-use vacm_core::{Access, AccessRow, Rows, Vacm, ViewType};
+use vacm_core::{Access, AccessRow, ViewType};
 
 /// A gateway, what its configuration says, and what came of the last call.
 #[derive(Drop)]
@@ -75,136 +68,6 @@ impl Model for GateHandle {
 
 /// The fault of a call that found no memory.
 pub(crate) const NO_MEMORY: CallFault = CallFault::Refused(Refusal::OutOfMemory);
-
-/// Returns the fault of a call that was given a text that is refused so.
-fn fault_of(fault: &GateFault) -> CallFault
-    ensures { (config : List ℕ) → Refuses config fault.now → RefusesConfig config result }
-{
-    if fault.is_memory() {
-        NO_MEMORY
-    } else {
-        CallFault::BadConfiguration
-    }
-}
-
-/// Returns what a configuration says, and its rows.
-fn rows_of(alloc: Global, config: &[u8]) -> Result<GateRows, CallFault>
-    ensures says { IfOk result (λ said. SaysSound config.now said.gate said.devices.items
-        said.receivers.items said.rows.users.items (tables_of said.rows.access)) }
-    ensures refuses { IfErr result (RefusesConfig config.now) }
-{
-    match GateRows::read(alloc, config) {
-        Ok(said) => Ok(said),
-        Err(fault) => Err(fault_of(&fault)),
-    }
-}
-
-/// Returns the access rows that a configuration says.
-fn access_of(alloc: Global, config: &[u8]) -> Result<Vec<AccessRow>, CallFault>
-    ensures access { IfOk result (λ access. IsAccessOf config.now access.items) }
-    ensures refuses { IfErr result (RefusesConfig config.now) }
-{
-    let said = rows_of(alloc, config)?;
-    let rows = said.rows;
-    let tables = rows.access;
-    Ok(tables.access)
-}
-
-/// Returns what a configuration says.
-pub(crate) fn config_of(alloc: Global, config: &[u8]) -> Result<GateConfig, CallFault>
-    ensures loads { IfOk result (λ said. Loads config.now said.gate said.devices.items
-        said.receivers.items said.users.users said.access) }
-    ensures own_contexts { IfOk result (λ said. HaveOwnContexts said.devices.items) }
-    ensures refuses { IfErr result (RefusesConfig config.now) }
-{
-    match GateConfig::read(alloc, config) {
-        Ok(said) => Ok(said),
-        Err(fault) => Err(fault_of(&fault)),
-    }
-}
-
-/// Returns a gateway with this agent to the devices that a configuration says.
-fn gate_of(
-    alloc: Global,
-    agent: Agent,
-    said: &GateSettings,
-    devices: &[DeviceSettings],
-) -> Result<Gate, AllocError>
-    requires { HaveOwnContexts devices.now }
-    ensures { IfOk result (IsNewGate agent devices.now) }
-{
-    let list = devices_of(alloc, devices)?;
-    let Ok(devices) = Devices::new(list) else {
-        unreachable!();
-    };
-    Gate::new(alloc, agent, devices, limits_of(said))
-}
-
-/// Returns no users.
-pub(crate) fn empty_users(alloc: Global) -> Result<Users, CallFault>
-    ensures users { IfOk result (λ users. users.users ≡ []) }
-    ensures no_memory { IfErr result (λ fault. fault ≡ Refused OutOfMemory) }
-{
-    let rows: Vec<UserRow> = Vec::new(alloc);
-    match Users::load(alloc, &rows) {
-        Ok(users) => Ok(users),
-        Err(_) => Err(NO_MEMORY),
-    }
-}
-
-/// Returns an agent of this engine without users, which has these rows. Where they can't be loaded, it answers that
-/// memory ran out: they are of a configuration, in which none is at fault.
-fn agent_without_users(alloc: Global, engine: EngineId, rows: &Rows) -> Result<Agent, CallFault>
-    ensures agent { IfOk result (IsAgentWithoutUsers engine (tables_of rows.now)) }
-    ensures no_memory { IfErr result (λ fault. fault ≡ Refused OutOfMemory) }
-{
-    let users = empty_users(alloc)?;
-    let Ok(tables) = Vacm::load(alloc, rows) else {
-        return Err(NO_MEMORY);
-    };
-    Ok(Agent::new(alloc, engine, 0, 0, users, tables))
-}
-
-/// Returns an agent without users and rows.
-pub(crate) fn empty_agent(alloc: Global) -> Result<Agent, CallFault>
-    ensures agent { IfOk result IsEmptyAgent }
-    ensures no_memory { IfErr result (λ fault. fault ≡ Refused OutOfMemory) }
-{
-    let Some(engine) = EngineId::of(&[0; 5]) else {
-        unreachable!();
-    };
-    let rows = Rows {
-        contexts: Vec::new(alloc),
-        groups: Vec::new(alloc),
-        access: Vec::new(alloc),
-        families: Vec::new(alloc),
-    };
-    agent_without_users(alloc, engine, &rows)
-}
-
-/// Returns what a configuration without addresses would say.
-fn empty_settings(alloc: Global, engine: EngineId) -> GateSettings
-    ensures path { string_bytes result.boots ≡ [] }
-    ensures listen { result.listen.items ≡ [] }
-    ensures traps { result.traps.items ≡ [] }
-{
-    GateSettings {
-        engine,
-        boots: String::new(alloc),
-        listen: Vec::new(alloc),
-        traps: Vec::new(alloc),
-        limits: GatewayLimits {
-            waiting: 1,
-            rounds: 1,
-            again: 1,
-            tries: 1,
-            last: 1,
-            gather: 0,
-        },
-        long_answers: false,
-        report_unreachable: false,
-    }
-}
 
 impl GateHandle {
     /// Returns a gateway of this configuration, in TOML, with these boots, whose agent started at the moment
@@ -330,42 +193,6 @@ impl GateHandle {
         }
     }
 
-    /// Returns what is reported of what became of a client's datagram.
-    fn took_client(&mut self, taken: ClientTaken) -> Result<GateEvent, CallFault>
-        requires { IsQuiet self.old }
-        ensures tells { TellsClient taken result self.new }
-        ensures keeps { KeepsSaid self.old self.new }
-        ensures gate { self.new.gate ≡ self.old.gate }
-    {
-        match taken {
-            ClientTaken::Refused(refused) => {
-                self.message = refused.report;
-                Err(CallFault::Refused(refused.why.refusal))
-            }
-            ClientTaken::Begins(number) => {
-                self.note_request(number);
-                Ok(GateEvent::Begins)
-            }
-            ClientTaken::Joins(number) => {
-                self.note_request(number);
-                Ok(GateEvent::Joins)
-            }
-            ClientTaken::NoRoom => Ok(GateEvent::NoRoom),
-            ClientTaken::SetOfBefore => Ok(GateEvent::SetOfBefore),
-        }
-    }
-
-    /// Notes the request for which a client's message waits.
-    fn note_request(&mut self, number: u64)
-        requires { IsQuiet self.old }
-        ensures leaves { LeavesRequest self.new number }
-        ensures keeps { KeepsSaid self.old self.new }
-        ensures gate { self.new.gate ≡ self.old.gate }
-    {
-        self.request = number;
-        self.note = GateNote::Request(self.gate.request_tag(number));
-    }
-
     /// Takes a datagram from the device of this number, counted from 0, at this moment, in milliseconds, as
     /// `Gate::take_device` does. Nothing is to be sent. The error is out of memory: then the datagram isn't taken,
     /// and may be taken again.
@@ -386,28 +213,6 @@ impl GateHandle {
         }
     }
 
-    /// Returns what is reported of what became of a device's datagram.
-    fn took_device(&mut self, taken: DeviceTaken) -> GateEvent
-        requires { IsQuiet self.old }
-        ensures tells { TellsDevice taken (Ok result) self.new }
-        ensures keeps { KeepsSaid self.old self.new }
-        ensures gate { self.new.gate ≡ self.old.gate }
-    {
-        match taken {
-            DeviceTaken::Answers {
-                number,
-                fault,
-                hidden,
-            } => {
-                self.request = number;
-                self.note = GateNote::Answer(fault, hidden);
-                GateEvent::Answers
-            }
-            DeviceTaken::NotWaitedFor => GateEvent::NotWaitedFor,
-            DeviceTaken::Unreadable => GateEvent::Unreadable,
-        }
-    }
-
     /// Does the first thing that is due at this moment, in milliseconds, as `Gate::next` does, and leaves the
     /// datagram to be sent, if there is one. The error is out of memory: then the call may be made again.
     pub fn next(&mut self, now: u64, salt: u64, ask_id: u32) -> Result<GateEvent, CallFault>
@@ -419,49 +224,6 @@ impl GateHandle {
         match self.gate.next(now, salt.to_be_bytes(), ask_id) {
             Ok(sent) => Ok(self.note_sent(sent)),
             Err(_) => Err(NO_MEMORY),
-        }
-    }
-
-    /// Returns what is reported of what goes out.
-    fn note_sent(&mut self, sent: Sent) -> GateEvent
-        requires { IsQuiet self.old }
-        ensures tells { TellsSent sent (Ok result) self.new }
-        ensures keeps { KeepsSaid self.old self.new }
-        ensures gate { self.new.gate ≡ self.old.gate }
-    {
-        match sent {
-            Sent::ToClient {
-                number,
-                client,
-                says,
-                datagram,
-            } => {
-                self.request = number;
-                self.client = Some(client);
-                self.note = GateNote::to_client(says);
-                self.message = Some(datagram);
-                GateEvent::ToClient
-            }
-            Sent::ToDevice {
-                number,
-                device,
-                datagram,
-            } => {
-                self.request = number;
-                self.device = device;
-                self.message = Some(datagram);
-                GateEvent::ToDevice
-            }
-            Sent::Unanswered { number, why } => {
-                self.request = number;
-                GateEvent::Unanswered(why)
-            }
-            Sent::GivenUp { number, device } => {
-                self.request = number;
-                self.device = device;
-                GateEvent::GivenUp
-            }
-            Sent::Nothing => GateEvent::Nothing,
         }
     }
 

@@ -3,25 +3,49 @@
 //!
 //! ```
 //! use gate_handles::{GateEvent, GateHandle, GateText, event_code_of};
+//! use std::alloc::Global;
 //!
 //! const TEXT: &[u8] = b"\
 //! [gate]\nengine = '80001f8804676174652d31'\nboots = '/var/lib/snmpsec-gate/boots'\nlisten = ['192.0.2.1:161']\n\
 //! [[device]]\ncontext = 'rack-1-pdu'\naddress = '10.1.0.7:161'\ncommunity = 'read-only'\n";
 //!
-//! let mut gate = GateHandle::of(rt.alloc(), TEXT, 1, 0)?;
-//! let mut out = [0; 40];
-//! let mut written = 0;
-//! gate.setting(GateText::Address, 0, &mut out, &mut written)?;
-//! assert!(rt; written == 12 && out.starts_with(b"10.1.0.7:161"));
-//! assert!(rt; gate.take_client(1000, b"client", b"no message").is_err());
-//! assert_eq!(rt; event_code_of(gate.next(1000, 1, 1)), 0);
-//! assert_eq!(rt; gate.next(1000, 2, 2)?, GateEvent::Nothing);
+//! /// Whether the first device has its address.
+//! fn has_address(gate: &GateHandle) -> bool {
+//!     let mut out = [0; 40];
+//!     let mut written = 0;
+//!     let told = gate.setting(GateText::Address, 0, &mut out, &mut written);
+//!     told.is_ok() && written == 12 && out.starts_with(b"10.1.0.7:161")
+//! }
+//!
+//! /// Whether the device has its address, whether what is no message is taken, and what is due then, twice.
+//! type Told = (bool, bool, i32, GateEvent);
+//!
+//! fn told_by(gate: &mut GateHandle) -> Result<Told, Fail> {
+//!     let is_taken = gate.take_client(1000, b"client", b"no message").is_ok();
+//!     let code = event_code_of(gate.next(1000, 1, 1));
+//!     let event = gate.next(1000, 2, 2)?;
+//!     Ok((has_address(gate), is_taken, code, event))
+//! }
+//!
+//! fn told(alloc: Global) -> Result<Told, Fail> {
+//!     let mut gate = GateHandle::of(alloc, TEXT, 1, 0)?;
+//!     let told = told_by(&mut gate);
+//!     drop(gate);
+//!     told
+//! }
+//!
+//! let (has_address, is_taken, code, event) = told(rt.alloc())?;
+//! assert!(rt; has_address && !is_taken);
+//! assert_eq!(rt; (code, event), (0, GateEvent::Nothing));
 //! ```
 #![tactic(auto)]
 
 mod event;
 mod forward;
 mod forward_event;
+mod forward_notes;
+mod gate_notes;
+mod gate_parts;
 mod handle;
 mod making;
 mod note;

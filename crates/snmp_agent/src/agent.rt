@@ -1,7 +1,6 @@
 //! The agent.
 
 ghost use Rattle.std.specs.Prelude.{◌≡◌, ◌≤◌, ◌<◌, ◌⊎◌, replicate, IfErr, IsSome, MatchOption, MatchResult};
-ghost use Rattle.snmp_ber.specs.declared.number.TheConstants.{MAX_INTEGER32};
 ghost use Rattle.engine_clock.specs.Pairs.{pair_max};
 ghost use Rattle.snmp_agent.specs.RefusalCounters.{counter_at};
 ghost use Rattle.snmp_agent.specs.Agent.{taker_of, taken_answer, AgentTakes, IsOpened};
@@ -15,8 +14,6 @@ use crate::counter::{drop_counter_of, one_more};
 use crate::decision::Decision;
 use crate::engine::Engine;
 use crate::judge::judge;
-use crate::laws::notification_is_accepted;
-use crate::notification::{Recipient, write_notification};
 use crate::refusal_counters::count_refusal;
 use crate::refused::Refused;
 use crate::report::report;
@@ -26,7 +23,7 @@ use engine_clock::EngineId;
 use snmp_ber::{Level, Oid};
 use snmp_incoming::Taken;
 use snmp_msg::{Binding, Refusal, RefusedAt, Spelled, USER_BASED, one_content, one_pdu};
-use snmp_outgoing::{Body, Front, supports};
+use snmp_outgoing::supports;
 use std::alloc::{AllocError, Global};
 use std::marker::Model;
 use usm_core::{Users, read_layout};
@@ -64,21 +61,20 @@ impl Model for Agent {
 }
 
 impl Agent {
-    ghost use Rattle.std.specs.Prelude.{◌≢◌, All, map, length, IfOk, IsOk, IfSome};
+    ghost use Rattle.std.specs.Prelude.{◌≢◌, All, map, IfOk, IsOk, IfSome};
     ghost use Rattle.snmp_message.specs.Scoped.{Contexts, ScopedFront};
     ghost use Rattle.snmp_msg.specs.PduTypes.{pdu_tag};
-    ghost use Rattle.snmp_msg.specs.declared.pdu_type.PduType.TheVariants.{GetRequest, SetRequest, SNMPv2Trap};
+    ghost use Rattle.snmp_msg.specs.declared.pdu_type.PduType.TheVariants.{GetRequest, SetRequest};
     ghost use Rattle.snmp_msg.specs.Pdu.{PduParts, PduText};
     ghost use Rattle.snmp_msg.specs.Variables.{CanBeWritten, variable_of};
     ghost use Rattle.vacm_core.specs.Allowed.{Allowed};
     ghost use Rattle.snmp_incoming.specs.Texts.{text_of};
     ghost use Rattle.snmp_incoming.specs.Answers.{given_of};
-    ghost use Rattle.snmp_outgoing.specs.Bodies.{BodyFits, front_in, variables_in};
     ghost use Rattle.usm_core.specs.Answers.{seal_answer};
     ghost use Rattle.snmp_agent.specs.Decides.{NextSeen, question, question_of, IsDecision};
     ghost use Rattle.snmp_incoming.specs.Outcome.{own_pair};
     ghost use Rattle.snmp_agent.specs.Responses.{response, responding};
-    ghost use Rattle.snmp_agent.specs.Sent.{notification, notifying, Sends, CanBeSent, CanSendAt, RefusesSenderAt};
+    ghost use Rattle.snmp_agent.specs.Sent.{Sends, CanBeSent, CanSendAt, RefusesSenderAt};
     ghost use Rattle.snmp_agent.specs.Sent.{IsAcceptedByManagers};
 
     /// An agent that started at the moment `started`, with these boots, at most 2147483647. Its counters are
@@ -371,85 +367,5 @@ impl Agent {
             &response,
             bindings,
         )
-    }
-
-    /// An SNMPv2-Trap for this user at this level (RFC 3416, section 4.2.6), under the agent's engine, boots
-    /// and time, which asks for no report. Nothing of the agent changes. `id` is msgID, at most 2147483647,
-    /// and the user's name has at most 32 octets; the salt is used at authPriv alone.
-    ///
-    /// The errors are those of `respond`, in its order.
-    pub fn notify(
-        &mut self,
-        now: u64,
-        id: u32,
-        user: &[u8],
-        level: Level,
-        body: &Body<'_>,
-        salt: [u8; 8],
-    ) -> Result<Vec<u8>, RefusedAt>
-        requires id { id ≤ MAX_INTEGER32 }
-        requires user { length user.now ≤ 32 }
-        requires tag { body.now.tag ≡ pdu_tag SNMPv2Trap }
-        requires body { BodyFits body.now }
-        ensures answer { IfSome (seal_answer result)
-            (Sends self.old now (λ own. notifying self.old.engine own id user.now level
-            (front_in body.now)
-            (variables_in body.now) salt)) }
-
-        // The refusals before the text come before OutOfMemory.
-        ensures memory { IsRefused result OutOfMemory
-            → CanBeSent self.old now
-            (λ own. notifying self.old.engine own id user.now level (front_in body.now)
-            (variables_in body.now) salt) }
-        ensures accepted { IfOk result (λ text. IsAcceptedByManagers self.old.users
-            (notification self.old.engine (own_pair self.old.boots self.old.started now)
-            id user.now level
-            (front_in body.now) (variables_in body.now) salt) text.items) }
-        ensures same { self.new ≡ self.old }
-    {
-        self.notify_of(now, id, user, level, &body.front(), body.bindings, salt)
-    }
-
-    /// The same notification, with this front and bindings in any form that can be written, as `respond_of` has them.
-    ///
-    /// The errors are those of `respond`, in its order.
-    pub fn notify_of<B: Spelled>(
-        &mut self,
-        now: u64,
-        id: u32,
-        user: &[u8],
-        level: Level,
-        front: &Front<'_>,
-        bindings: &[B],
-        salt: [u8; 8],
-    ) -> Result<Vec<u8>, RefusedAt>
-        requires id { id ≤ MAX_INTEGER32 }
-        requires user { length user.now ≤ 32 }
-        requires tag { front.now.tag ≡ pdu_tag SNMPv2Trap }
-        requires fit { All (λ b. B.fits b) bindings.now }
-        ensures answer { IfSome (seal_answer result)
-            (Sends self.old now (λ own. notifying self.old.engine own id user.now level front.now
-            (map B.says bindings.now) salt)) }
-        ensures memory { IsRefused result OutOfMemory
-            → CanBeSent self.old now
-            (λ own. notifying self.old.engine own id user.now level front.now
-            (map B.says bindings.now) salt) }
-        ensures accepted { IfOk result (λ text. IsAcceptedByManagers self.old.users
-            (notification self.old.engine (own_pair self.old.boots self.old.started now)
-            id user.now level front.now
-            (map B.says bindings.now) salt) text.items) }
-        ensures same { self.new ≡ self.old }
-    {
-        notification_is_accepted();
-        let Some(own) = self.engine.pair(now) else {
-            return Err(RefusedAt::plain(Refusal::ClockExhausted));
-        };
-        let to = Recipient {
-            id,
-            user,
-            level,
-            salt,
-        };
-        write_notification(&mut self.users, &self.engine.id, own, &to, front, bindings)
     }
 }

@@ -5,21 +5,41 @@
 //! ```
 //! use engine_clock::EngineId;
 //! use snmp_agent::Agent;
+//! use std::alloc::Global;
 //! use usm_core::Users;
-//! use vacm_core::{Rows, Vacm};
+//! use vacm_core::{Rows, Vacm, VacmFault};
 //!
-//! let users = Users::load(rt.alloc(), &[])?;
-//! let engine = EngineId::of(b"\x80\x00\x1f\x88\x04k").ok_or("an engine ID")?;
-//! let rows = Rows {
-//!     contexts: Vec::new(rt.alloc()),
-//!     groups: Vec::new(rt.alloc()),
-//!     access: Vec::new(rt.alloc()),
-//!     families: Vec::new(rt.alloc()),
-//! };
-//! let vacm = Vacm::load(rt.alloc(), &rows)?;
-//! let mut agent = Agent::new(rt.alloc(), engine, 1, 0, users, vacm);
-//! assert!(rt; agent.take(1000, b"no message").is_err());
-//! assert_eq!(rt; agent.counter(4), Some(0));
+//! /// Tables without rows.
+//! fn tables(alloc: Global) -> Result<Vacm, VacmFault> {
+//!     let rows = Rows {
+//!         contexts: Vec::new(alloc),
+//!         groups: Vec::new(alloc),
+//!         access: Vec::new(alloc),
+//!         families: Vec::new(alloc),
+//!     };
+//!     Vacm::load(alloc, &rows)
+//! }
+//!
+//! /// An agent without users and rows, of boots 1.
+//! fn agent(alloc: Global) -> Result<Agent, Fail> {
+//!     let engine = EngineId::of(b"\x80\x00\x1f\x88\x04k").ok_or("an engine ID")?;
+//!     let users = Users::load(alloc, &[])?;
+//!     let vacm = tables(alloc)?;
+//!     Ok(Agent::new(alloc, engine, 1, 0, users, vacm))
+//! }
+//!
+//! /// Whether an agent takes what is no message, and how many engines it has refused.
+//! fn took(alloc: Global) -> Result<(bool, Option<u32>), Fail> {
+//!     let mut agent = agent(alloc)?;
+//!     let is_taken = agent.take(1000, b"no message").is_ok();
+//!     let count = agent.counter(4);
+//!     drop(agent);
+//!     Ok((is_taken, count))
+//! }
+//!
+//! let (is_taken, count) = took(rt.alloc())?;
+//! assert!(rt; !is_taken);
+//! assert_eq!(rt; count, Some(0));
 //! ```
 //!
 //! ```
@@ -49,6 +69,7 @@ mod engine;
 mod judge;
 mod laws;
 mod notification;
+mod notify;
 mod refusal;
 mod refusal_counters;
 mod refused;

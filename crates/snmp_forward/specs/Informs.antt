@@ -2,10 +2,9 @@
 -- 3416, section 4.2.7).
 --
 -- `IsInformOf`: the Inform by which a receiver is told what a device sent. `IsInformFor`: the same, if it may be
--- notified. `IsMediated`: an Inform is one of these. `inform_to`: as what it goes out.
--- `time_request_to`: as what the receiver's engine is asked for its boots and time. `SealsInform`: what comes of
--- sealing an Inform. `SendsDiscovery`, `SendsTimeRequest`, `SendsInform`: the message that goes out, and what is
--- remembered of it.
+-- notified. `IsMediated`: an Inform is one of these. `inform_to`: as what it goes out. `SealsTimeRequest`,
+-- `SealsInform`: what comes of sealing the request for an engine's boots and time, and an Inform. `SendsDiscovery`,
+-- `SendsTimeRequest`, `SendsInform`: the message that goes out, and what is remembered of it.
 use Rattle.std.specs.Prelude.{◌≡◌, ◌≢◌, ◌⊎◌, ℕ, pos, true, List, [], None, Some, Option, Result, Err, Ok}
 use Rattle.std.specs.Global.{Vec}
 use Rattle.engine_clock.specs.Marks.{SeenPair, mark_at}
@@ -17,11 +16,11 @@ use Rattle.snmp_message.specs.declared.refused_at.RefusedAt.{RefusedAt}
 use Rattle.snmp_msg.specs.Pdu.{PduParts, pdu_with}
 use Rattle.snmp_msg.specs.PduTypes.{pdu_tag}
 use Rattle.snmp_msg.specs.Variables.{variables_of}
-use Rattle.snmp_msg.specs.declared.pdu_type.PduType.TheVariants.{GetRequest, InformRequest}
+use Rattle.snmp_msg.specs.declared.pdu_type.PduType.TheVariants.{InformRequest}
 use Rattle.usm_core.specs.Sealed.{Seals}
 use Rattle.vacm_core.specs.Tables.{Tables}
 use Rattle.snmp_gate.specs.declared.devices.Device.{Device}
-use Rattle.snmp_outgoing.specs.Requests.{discovering, written_pair}
+use Rattle.snmp_outgoing.specs.Requests.{asking_time, discovering, written_pair}
 use Rattle.snmp_outgoing.specs.Speaks.{Speech, spoken}
 use Rattle.snmp_manager.specs.Pendings.{Remembers}
 use Rattle.snmp_manager.specs.Views.{Held}
@@ -79,31 +78,16 @@ inform_to own engine held by inform pdu = record {
   pdu = pdu_with (pdu_tag InformRequest) pdu.id (pos 0) (pos 0) (variables_of pdu.list);
 }
 
--- a GetRequest of nothing, for the receiver's user at authNoPriv
-abbrev pub time_request_to : List ℕ → Option SeenPair → Sealing → Inform → Speech
-time_request_to engine held by inform = record {
-  level = AuthNoPriv;
-  id = by.id;
-  reportable = true;
-  engine = engine;
-  pair = written_pair AuthNoPriv held by.seconds;
-  user = inform.user.items;
-  salt = by.salt;
-  context_engine = engine;
-  context_name = [];
-  pdu = pdu_with (pdu_tag GetRequest) (pos by.id) (pos 0) (pos 0) [];
-}
-
 -- ---- what comes of sealing them, and what is remembered of them
 
 abbrev pub SendsDiscovery : Held → Sealing → Pending → List ℕ → Type 0
 SendsDiscovery held by pending datagram = Seals held.users (discovering by.id) (Ok datagram)
     × Remembers pending by.id [] [] NoAuthNoPriv [] [] (pos by.id)
 
--- what comes of sealing the request for the time
+-- what comes of sealing the request for the time, which goes to the receiver's engine for its user at authNoPriv
 abbrev pub SealsTimeRequest : Held → List ℕ → Inform → Sealing → Result (List ℕ) Refusal → Type 0
 SealsTimeRequest held engine inform by answer =
-    Seals held.users (spoken (time_request_to engine (mark_at held.clocks engine) by inform)) answer
+    Seals held.users (asking_time by.id engine inform.user.items) answer
 
 abbrev pub SendsTimeRequest : Held → List ℕ → Inform → Sealing → Pending → List ℕ → Type 0
 SendsTimeRequest held engine inform by pending datagram = SealsTimeRequest held engine inform by (Ok datagram)

@@ -13,11 +13,9 @@ use crate::receivers::{Receiver, Receivers, USER_NAME_LIMIT};
 use crate::sealing::Sealing;
 use crate::trap::front_of;
 use engine_clock::EngineId;
-use snmp_ber::Level;
 use snmp_gate::{Devices, bindings_of};
 use snmp_manager::{Manager, Pending, Target};
 use snmp_msg::{PduType, Refusal, RefusedAt, one_pdu};
-use snmp_outgoing::Body;
 use std::alloc::{AllocError, Global};
 use vacm_core::Vacm;
 
@@ -111,8 +109,8 @@ pub(crate) fn write_discovery(manager: &Manager, by: &Sealing) -> Result<AskedWi
     Ok(AskedWith::Sends { datagram, pending })
 }
 
-/// Writes the request of nothing by whose Report an engine's boots and time are learned (RFC 3414, section 4). The
-/// error is out of memory. The manager stays as it is.
+/// Writes the request by which an engine's boots and time are learned (RFC 3414, section 4). The error is out of
+/// memory. The manager stays as it is.
 pub(crate) fn write_time_request(
     manager: &mut Manager,
     engine: &EngineId,
@@ -123,17 +121,7 @@ pub(crate) fn write_time_request(
     ensures written { IfOk result (IsTimeRequestWritten manager.old engine.now inform.now by.now) }
     ensures same { manager.new ≡ manager.old }
 {
-    let body = Body {
-        context_engine: engine.as_slice(),
-        context_name: &[],
-        tag: PduType::GetRequest.tag(),
-        id: by.id as i32,
-        second: 0,
-        third: 0,
-        bindings: &[],
-    };
-    let (now, level) = (by.seconds, Level::AuthNoPriv);
-    asked_with(manager.request(now, by.id, engine, &inform.user, level, &body, by.salt))
+    asked_with(manager.request_time(by.id, engine, &inform.user))
 }
 
 /// Writes the InformRequest (RFC 3416, section 4.2.7): with the request-id and the bindings of the device's, in the

@@ -2,6 +2,8 @@
 //! 3.3).
 //!
 //! ```
+//! ghost use Rattle.std.specs.Prelude.{◌≡◌, IfOk};
+//!
 //! use engine_clock::EngineId;
 //! use snmp_agent::Agent;
 //! use snmp_ber::Level;
@@ -10,9 +12,8 @@
 //!     WAITING_LIMIT,
 //! };
 //! use snmp_gate::{Device, Devices};
-//! use snmpsec_config::Config;
+//! use snmpsec_config::{Config, ConfigFault};
 //! use std::alloc::{AllocError, Global};
-//! use usm_core::Users;
 //!
 //! /// Ann may be notified of all, and Bob of the system group alone: not of snmpTrapOID.0, which each notification
 //! /// has.
@@ -43,17 +44,24 @@
 //! \x30\x0d\x06\x08\x2b\x06\x01\x02\x01\x01\x03\x00\x43\x01\x05\
 //! \x30\x17\x06\x0a\x2b\x06\x01\x06\x03\x01\x01\x04\x01\x00\x06\x09\x2b\x06\x01\x06\x03\x01\x01\x05\x01";
 //!
-//! fn devices(alloc: Global) -> Result<Devices, AllocError> {
-//!     let mut list = Vec::new(alloc);
-//!     list.push(Device {
-//!         context: Vec::from_slice(alloc, b"rack-1-pdu")?,
-//!         community: Vec::from_slice(alloc, b"public")?,
+//! fn device(alloc: Global) -> Result<Device, AllocError> {
+//!     let context = Vec::from_slice(alloc, b"rack-1-pdu")?;
+//!     let community = Vec::from_slice(alloc, b"public")?;
+//!     Ok(Device {
+//!         context,
+//!         community,
 //!         write_community: None,
 //!         max_size: 1472,
 //!         repetitions: 32,
 //!         names: 100,
 //!         at_once: 32,
-//!     })?;
+//!     })
+//! }
+//!
+//! fn devices(alloc: Global) -> Result<Devices, AllocError> {
+//!     let device = device(alloc)?;
+//!     let mut list = Vec::new(alloc);
+//!     list.push(device)?;
 //!     Devices::new(list).map_err(|_| AllocError)
 //! }
 //!
@@ -69,14 +77,19 @@
 //!     Receivers::new(list).map_err(|_| AllocError)
 //! }
 //!
+//! /// The gateway's engine, with the tables.
+//! fn agent(alloc: Global, engine: EngineId) -> Result<Agent, ConfigFault>
+//!     ensures { IfOk result (λ agent. agent.engine ≡ engine) }
+//! {
+//!     let config = Config::read(alloc, TABLES)?;
+//!     Ok(Agent::new(alloc, engine, 1, 0, config.users, config.access))
+//! }
+//!
 //! fn forwarder(alloc: Global) -> Result<Forwarder, AllocError> {
-//!     let config = Config::read(alloc, TABLES).map_err(|_| AllocError)?;
-//!     let users = Users::load(alloc, &[]).map_err(|_| AllocError)?;
-//!     let devices = devices(alloc)?;
-//!     let receivers = receivers(alloc)?;
 //!     let engine = EngineId::of(b"\x80\x00\x1f\x88\x04gate").ok_or(AllocError)?;
-//!     let own = engine.clone()?;
-//!     let agent = Agent::new(alloc, engine, 1, 0, users, config.access);
+//!     let (devices, receivers) = (devices(alloc)?, receivers(alloc)?);
+//!     let own = engine.copy();
+//!     let agent = agent(alloc, engine).map_err(|_| AllocError)?;
 //!     Ok(Forwarder::new(alloc, agent, own, devices, receivers, WAITING_LIMIT))
 //! }
 //!
@@ -98,18 +111,36 @@
 //!     }
 //! }
 //!
-//! let mut forwarder = forwarder(rt.alloc())?;
+//! /// What becomes of what was taken, whether the Trap is sent on, and what is left.
+//! type SentOn = ([TrapTaken; 3], bool, (Option<u64>, usize));
+//!
+//! fn sent_on_by(forwarder: &mut Forwarder) -> Result<SentOn, AllocError> {
+//!     let took = took(forwarder)?;
+//!     let is_sent = is_sent(forwarder)?;
+//!     Ok((took, is_sent, (forwarder.due(), forwarder.waiting())))
+//! }
+//!
+//! fn sent_on(alloc: Global) -> Result<SentOn, AllocError> {
+//!     let mut forwarder = forwarder(alloc)?;
+//!     let sent_on = sent_on_by(&mut forwarder);
+//!     drop(forwarder);
+//!     sent_on
+//! }
+//!
+//! let (took, is_sent, left) = sent_on(rt.alloc())?;
 //! let became = [
 //!     TrapTaken::NotNotification(NotNotification::Unreadable),
 //!     TrapTaken::OtherCommunity,
 //!     TrapTaken::Waits(0),
 //! ];
-//! assert_eq!(rt; took(&mut forwarder)?, became);
-//! assert!(rt; is_sent(&mut forwarder)?);
-//! assert_eq!(rt; (forwarder.due(), forwarder.waiting()), (None, 0));
+//! assert_eq!(rt; took, became);
+//! assert!(rt; is_sent);
+//! assert_eq!(rt; left, (None, 0));
 //! ```
 //!
 //! ```
+//! ghost use Rattle.std.specs.Prelude.{◌≡◌, IfOk};
+//!
 //! use engine_clock::{Clocks, EngineId};
 //! use snmp_agent::Agent;
 //! use snmp_ber::Level;
@@ -119,7 +150,7 @@
 //! };
 //! use snmp_gate::{Device, Devices};
 //! use snmp_manager::Manager;
-//! use snmpsec_config::Config;
+//! use snmpsec_config::{Config, ConfigFault};
 //! use std::alloc::{AllocError, Global};
 //!
 //! /// Ann may be notified of all.
@@ -164,23 +195,38 @@
 //!     Receivers::new(list).map_err(|_| AllocError)
 //! }
 //!
-//! fn originator(alloc: Global) -> Result<Originator, AllocError> {
-//!     let config = Config::read(alloc, TABLES).map_err(|_| AllocError)?;
+//! /// An engine that has Ann and the tables.
+//! fn agent(alloc: Global, engine: EngineId) -> Result<Agent, ConfigFault>
+//!     ensures { IfOk result (λ agent. agent.engine ≡ engine) }
+//! {
+//!     let config = Config::read(alloc, TABLES)?;
+//!     Ok(Agent::new(alloc, engine, 1, 0, config.users, config.access))
+//! }
+//!
+//! fn forwarder(alloc: Global, engine: EngineId) -> Result<Forwarder, AllocError> {
 //!     let (devices, receivers) = (devices(alloc)?, receivers(alloc)?);
-//!     let engine = EngineId::of(b"\x80\x00\x1f\x88\x04gate").ok_or(AllocError)?;
-//!     let manager = Manager::new(alloc, config.users.try_clone()?, Clocks::new(alloc));
-//!     let agent = Agent::new(alloc, engine.copy(), 1, 0, config.users, config.access);
 //!     let own = engine.copy();
-//!     let forwarder = Forwarder::new(alloc, agent, own, devices, receivers, WAITING_LIMIT);
-//!     let informs = Informs::new(alloc, engine, manager, 1_024, InformLimits::default());
+//!     let agent = agent(alloc, engine).map_err(|_| AllocError)?;
+//!     Ok(Forwarder::new(alloc, agent, own, devices, receivers, WAITING_LIMIT))
+//! }
+//!
+//! fn informs(alloc: Global, engine: EngineId) -> Result<Informs, ConfigFault> {
+//!     let config = Config::read(alloc, TABLES)?;
+//!     let manager = Manager::new(alloc, config.users, Clocks::new(alloc));
+//!     Ok(Informs::new(alloc, engine, manager, 1_024, InformLimits::default()))
+//! }
+//!
+//! fn originator(alloc: Global) -> Result<Originator, AllocError> {
+//!     let engine = EngineId::of(b"\x80\x00\x1f\x88\x04gate").ok_or(AllocError)?;
+//!     let informs = informs(alloc, engine.copy()).map_err(|_| AllocError)?;
+//!     let forwarder = forwarder(alloc, engine)?;
 //!     Ok(Originator::new(forwarder, informs))
 //! }
 //!
 //! /// The engine of receiver 1.
 //! fn receiver(alloc: Global) -> Result<Agent, AllocError> {
-//!     let config = Config::read(alloc, TABLES).map_err(|_| AllocError)?;
 //!     let engine = EngineId::of(b"\x80\x00\x1f\x88\x04receiver").ok_or(AllocError)?;
-//!     Ok(Agent::new(alloc, engine, 1, 0, config.users, config.access))
+//!     agent(alloc, engine).map_err(|_| AllocError)
 //! }
 //!
 //! /// The receiver of a Trap that goes out.
@@ -238,13 +284,26 @@
 //! }
 //!
 //! /// What becomes of a Trap and of its Inform, and how many Informs wait in the end.
-//! fn sent_on(alloc: Global) -> Result<(Notified, Answered, usize), AllocError> {
-//!     let mut originator = originator(alloc)?;
+//! type SentOn = (Notified, Answered, usize);
+//!
+//! fn sent_on_to(originator: &mut Originator, receiver: &mut Agent) -> Result<SentOn, AllocError> {
+//!     let notified = notified(originator)?;
+//!     let answered = answered(originator, receiver)?;
+//!     Ok((notified, answered, originator.informs()))
+//! }
+//!
+//! fn sent_on_by(alloc: Global, originator: &mut Originator) -> Result<SentOn, AllocError> {
 //!     let mut receiver = receiver(alloc)?;
-//!     let of_trap = notified(&mut originator);
-//!     let of_inform = answered(&mut originator, &mut receiver);
-//!     let left = originator.informs();
-//!     Ok((of_trap?, of_inform?, left))
+//!     let sent_on = sent_on_to(originator, &mut receiver);
+//!     drop(receiver);
+//!     sent_on
+//! }
+//!
+//! fn sent_on(alloc: Global) -> Result<SentOn, AllocError> {
+//!     let mut originator = originator(alloc)?;
+//!     let sent_on = sent_on_by(alloc, &mut originator);
+//!     drop(originator);
+//!     sent_on
 //! }
 //!
 //! let (notified, answered, left) = sent_on(rt.alloc())?;
@@ -269,6 +328,7 @@ mod originator_laws;
 mod queue;
 mod receivers;
 mod sealing;
+mod send_inform;
 mod trap;
 mod waiting_inform;
 

@@ -7,6 +7,7 @@ use Rattle.snmp_gate.specs.Groups.{Group, groups_of}
 use Rattle.snmp_gate.specs.History.{Happening}
 use Rattle.snmp_gate.specs.Noting.{IsNotedAgain, IsNotedFor, IsUnnoted}
 use Rattle.snmp_gate.specs.Sets.{KeepsSets, lasting, lasts, new_set}
+use Rattle.snmp_gate.specs.Taking.{AllWorkSaysSame}
 use Rattle.snmp_gate.specs.Waiting.{AsksStand, GateStands, IsAsBefore, SameButSets, SetsStand, asks_in, messages_in}
 use Rattle.snmp_gate.specs.declared.asks.DeviceAsks.{DeviceAsks}
 use Rattle.snmp_gate.specs.declared.devices.Devices.{Devices}
@@ -21,6 +22,7 @@ use Rattle.snmp_gate.specs.declared.waiting_message.WaitingMessage.{WaitingMessa
 use Rattle.snmp_gate.specs.declared.work.Work.{Work}
 use Rattle.snmp_gate.proofs.Coming.{same_stands}
 use Rattle.snmp_gate.proofs.Histories.{moved}
+use Rattle.snmp_gate.proofs.Same.{work_as_before}
 use Rattle.snmp_gate.proofs.SetsKept.{KeepsKnown, keeps_kept, keeps_same, sets_step}
 use Rattle.snmp_gate.specs.declared.sets.SetNote.TheVariants.{New, NoRoom, Repeated}
 use Rattle.std.proofs.lemmas.List.{length_push}
@@ -100,6 +102,7 @@ as_before now old new agent devices limits asks groups next sets = record {
   limits = limits;
   asks = ap (λ (v : Vec DeviceAsks). asks_in v.items) asks;
   messages = ap messages_in groups;
+  work = work_as_before (groups_of old.requests.list.items) (groups_of new.requests.list.items) groups;
   next = next;
   sets = sets;
   stands = stands_kept now old new (ap (λ (a : AgentState). a.tables) agent) devices (ap (λ (v : Vec DeviceAsks). asks_in v.items) asks) groups next (keeps_kept now old.sets.sets.items new.sets.sets.items sets);
@@ -135,6 +138,7 @@ as_before_same now old mid new agent devices limits asks requests sets is =
       limits = is.limits ∙ first.limits;
       asks = is.asks ∙ first.asks;
       messages = is.messages ∙ first.messages;
+      work = subst (λ (rs : WaitingRequests WaitingMessage Work). AllWorkSaysSame (groups_of rs.list.items) (groups_of new.requests.list.items)) requests is.work;
       next = is.next ∙ first.next;
       sets = keeps_again now old.sets.sets.items mid.sets.sets.items new.sets.sets.items first.sets is.sets;
       stands = λ since before later stands. is.stands since before later (same_first since before stands);

@@ -30,7 +30,7 @@ use Rattle.snmp_gate.specs.Noting.{AsksSet}
 use Rattle.snmp_gate.specs.Question.{Question}
 use Rattle.snmp_gate.specs.ReadAsks.{bulk_type, bulk_variables_asked, max_repetitions_in, non_repeaters_in, variables_in}
 use Rattle.snmp_gate.specs.Sending.{Requests}
-use Rattle.snmp_gate.specs.Taking.{BulkSaysSame, OpenSaysSame, TaskSaysSame, WorkSaysSame}
+use Rattle.snmp_gate.specs.Taking.{AllWorkSaysSame, BulkSaysSame, OpenSaysSame, TaskSaysSame, WorkSaysSame}
 use Rattle.snmp_gate.specs.Waiting.{AllCameFrom, GroupStands, GroupsStand, OpenStands, WorkStands, messages_in}
 use Rattle.snmp_gate.specs.Work.{BulkStandsFor, IsAskedBy, TaskStands, request_of_task}
 use Rattle.snmp_gate.specs.declared.devices.Device.{Device}
@@ -45,7 +45,7 @@ use Rattle.snmp_gate.specs.declared.timer.Timer.{Timer}
 use Rattle.snmp_gate.specs.declared.work.Work.{Work}
 use Rattle.snmp_gate.specs.declared.work.Work.TheVariants.{Open, Ends}
 use Rattle.snmp_gate.proofs.GroupSteps.{group_at, groups_set}
-use Rattle.snmp_gate.proofs.Histories.{all_set, group_in, numbered_set, numbers_back}
+use Rattle.snmp_gate.proofs.Histories.{Waiting, all_set, group_in, numbered_set, numbers_back}
 use Rattle.std.proofs.lemmas.List.Elements.{All-cons, All-head, All-nil, All-tail}
 
 column_stands : (Seen : List ℕ → Type 0) (told : List Variable) (old new : BulkColumn) → SaysSame old new → BulkStands Seen told old → BulkStands Seen told new
@@ -214,3 +214,48 @@ same_messages rs place r s within is same =
     ap (map both) (groups_set rs place s)
     ∙ map-set_same both (groups_of rs) place (group_of s) (group_of r)
     (same ∙ ap both (group_at rs place r within is).group_is)
+
+-- ---- what is as it was says the same
+
+columns_say_same : (cs : List BulkColumn) → AllSaySame cs cs
+columns_say_same [] = tt
+columns_say_same (c ∷ cs) = (record { same = refl; given = refl; progress = refl }, columns_say_same cs)
+
+bulk_says_same : (d : BulkDialogue) → BulkSaysSame d d
+bulk_says_same d = record {
+  says = record {
+    columns = columns_say_same d.columns.items;
+    limits = record { non_repeaters = refl; max_repetitions = refl; repetitions = refl; at_once = refl; gathered = refl };
+    rounds = refl;
+    ask = refl;
+  };
+  requests = refl;
+}
+
+task_says_same : (t : Task) → TaskSaysSame t t
+task_says_same (task.Bulk by d) = (refl, bulk_says_same d)
+task_says_same (task.Read operation d) = refl
+task_says_same task.Set = refl
+
+work_says_same : (w : Work) → WorkSaysSame w w
+work_says_same (Open o) = record { device = refl; timer = refl; asked = refl; task = task_says_same o.task.task }
+work_says_same (Ends e) = refl
+
+all_work_says_same : (gs : List Waiting) → AllWorkSaysSame gs gs
+all_work_says_same [] = tt
+all_work_says_same (g ∷ gs) = (work_says_same g.work, all_work_says_same gs)
+
+pub work_as_before : (old new : List Waiting) → new ≡ old → AllWorkSaysSame old new
+work_as_before old new is = subst (AllWorkSaysSame old) (sym is) (all_work_says_same old)
+
+-- the work on one request says the same, and that on the others is as it was
+work_set : (gs : List Waiting) (place : ℕ) (g h : Waiting) → place < length gs → g ≡ slice_index_or gs place g → WorkSaysSame g.work h.work → AllWorkSaysSame gs (slice_set gs place h)
+work_set [] place g h within is same = tt
+work_set (x ∷ gs) zero g h within is same = (subst (λ (y : Waiting). WorkSaysSame y.work h.work) is same, all_work_says_same gs)
+work_set (x ∷ gs) (suc n) g h within is same = (work_says_same x.work, work_set gs n g h (omega (arith, within)) is same)
+
+pub work_says_same_at : (rs : Requests) (place : ℕ) (r s : WaitingRequest WaitingMessage Work) → place < length rs → r ≡ slice_index_or rs place r → WorkSaysSame r.work s.work
+    → AllWorkSaysSame (groups_of rs) (groups_of (slice_set rs place s))
+work_says_same_at rs place r s within is same =
+    let at = group_at rs place r within is in
+    subst (AllWorkSaysSame (groups_of rs)) (sym (groups_set rs place s)) (work_set (groups_of rs) place (group_of r) (group_of s) at.within at.group_is same)

@@ -2,16 +2,17 @@
 --
 -- `WaitsFor`: the request's device is asked with a request-id. `WorkAfter`: what the request is behind the answer.
 -- `AnswerPlace`: for which request a device was asked with an answer's request-id. `WorkSaysSame`: a request stays what
--- it was. `EndsAsSaid`: a SetRequest ends by what its device's answer says.
+-- it was. `AllWorkSaysSame`: all requests do. `EndsAsSaid`: a SetRequest ends by what its device's answer says.
 use Rattle.std.specs.Prelude.{◌≡◌, ◌≢◌, ◌<◌, ℕ, pos, List, Some, None, length}
 use Rattle.std.specs.Global.{Vec}
-use Rattle.std.specs.List.{HoldsAt}
+use Rattle.std.specs.List.{AllZip, HoldsAt}
 use Rattle.snmp_msg.specs.declared.pdu.Pdu.{Pdu}
 use Rattle.vacm_core.specs.Tables.{Tables}
 use Rattle.snmp_walk.specs.BulkAnswered.{DialogueSaysSame}
 use Rattle.snmp_walk.specs.BulkDialogue.{bulk_requests}
 use Rattle.snmp_walk.specs.declared.bulk_dialogue.BulkDialogue.{BulkDialogue}
 use Rattle.snmp_gate.specs.Ends.{IsOutcomeOf}
+use Rattle.snmp_gate.specs.Groups.{Group}
 use Rattle.snmp_gate.specs.Question.{Question}
 use Rattle.snmp_gate.specs.Said.{Said}
 use Rattle.snmp_gate.specs.Work.{EndingStands, TaskStands}
@@ -78,6 +79,10 @@ pub record OpenSaysSame (old new : OpenRequest) : Type 0 where
 abbrev pub WorkSaysSame : Work → Work → Type 0
 WorkSaysSame (Open old) (Open new) = OpenSaysSame old new
 WorkSaysSame old new = new ≡ old
+
+abbrev pub AllWorkSaysSame : List (Group WaitingMessage Work) → List (Group WaitingMessage Work) → Type 0
+AllWorkSaysSame old new =
+    AllZip (λ (before after : Group WaitingMessage Work). WorkSaysSame before.work after.work) old new
 
 -- ---- a SetRequest ends by its device's answer
 

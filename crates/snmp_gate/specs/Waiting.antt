@@ -29,6 +29,7 @@ use Rattle.snmp_gate.specs.Noting.{AsksSet}
 use Rattle.snmp_gate.specs.Question.{Question}
 use Rattle.snmp_gate.specs.Replies.{Answering, SameAgent, answer_with}
 use Rattle.snmp_gate.specs.Sets.{IsKept, KeepsSets}
+use Rattle.snmp_gate.specs.Taking.{AllWorkSaysSame}
 use Rattle.snmp_gate.specs.Time.{times_asked}
 use Rattle.snmp_gate.specs.Work.{EndingStands, TaskStands, request_of_task}
 use Rattle.snmp_gate.specs.declared.asks.DeviceAsk.{DeviceAsk}
@@ -174,6 +175,7 @@ pub record IsAsBefore (now : ℕ) (old new : Gate) : Type 0 where
   pub limits : new.limits ≡ old.limits
   pub asks : asks_in new.asks.items ≡ asks_in old.asks.items
   pub messages : messages_in (groups_of new.requests.list.items) ≡ messages_in (groups_of old.requests.list.items)
+  pub work : AllWorkSaysSame (groups_of old.requests.list.items) (groups_of new.requests.list.items)
   pub next : new.requests.next ≡ old.requests.next
   pub sets : KeepsSets now old.sets.sets.items new.sets.sets.items
   pub stands : (since : ℕ) (before : List Happening) → since ≤ now → GateStands since before old

@@ -57,6 +57,7 @@
 //! use snmp_responder::Viewer;
 //! use snmp_walk::{BulkAsk, BulkDialogue, BulkLimits, BulkNext};
 //! use snmpsec_config::Config;
+//! use std::alloc::Global;
 //!
 //! const TABLES: &[u8] = b"\
 //! [[context]]\nname = ''\n\
@@ -79,25 +80,39 @@
 //! \xa5\x18\x02\x01\x63\x02\x01\x00\x02\x01\x02\x30\x0d\
 //! \x30\x0b\x06\x07\x2b\x06\x01\x02\x01\x01\x05\x05\x00";
 //!
-//! let config = Config::read(rt.alloc(), TABLES)?;
-//! let viewer = Viewer {
-//!     vacm: &config.access,
-//!     model: 3,
-//!     name: b"ann",
-//!     level: Level::NoAuthNoPriv,
-//!     context: b"",
-//! };
-//! let request = Pdu {
-//!     tag: PduType::GetBulkRequest.tag(),
-//!     id: 7,
-//!     second: 0,
-//!     third: 2,
-//!     list: ASKED,
-//! };
-//! let mut dialogue = BulkDialogue::new(rt.alloc(), &request, &LIMITS)?;
-//! let by = BulkAsk::GetBulk(0, 2);
-//! assert_eq!(rt; dialogue.go_on(&viewer), BulkNext::Asks(by));
-//! let ask = write_bulk_ask(rt.alloc(), b"public", 99, by, &dialogue)?;
+//! /// What the dialogue for a request asks, and the datagram that asks it.
+//! fn asked(alloc: Global, viewer: &Viewer<'_>) -> Result<(BulkNext, Vec<u8>), Fail> {
+//!     let request = Pdu {
+//!         tag: PduType::GetBulkRequest.tag(),
+//!         id: 7,
+//!         second: 0,
+//!         third: 2,
+//!         list: ASKED,
+//!     };
+//!     let mut dialogue = BulkDialogue::new(alloc, &request, &LIMITS)?;
+//!     let next = dialogue.go_on(viewer);
+//!     let by = BulkAsk::GetBulk(0, 2);
+//!     let ask = write_bulk_ask(alloc, b"public", 99, by, &dialogue)?;
+//!     Ok((next, ask))
+//! }
+//!
+//! /// The same for ann.
+//! fn asked_for_ann(alloc: Global) -> Result<(BulkNext, Vec<u8>), Fail> {
+//!     let config = Config::read(alloc, TABLES)?;
+//!     let viewer = Viewer {
+//!         vacm: &config.access,
+//!         model: 3,
+//!         name: b"ann",
+//!         level: Level::NoAuthNoPriv,
+//!         context: b"",
+//!     };
+//!     let asked = asked(alloc, &viewer);
+//!     drop(config);
+//!     asked
+//! }
+//!
+//! let (next, ask) = asked_for_ann(rt.alloc())?;
+//! assert_eq!(rt; next, BulkNext::Asks(BulkAsk::GetBulk(0, 2)));
 //! assert_eq!(rt; ask.as_slice(), ASK);
 //! ```
 //!
@@ -144,19 +159,31 @@
 //!     })
 //! }
 //!
-//! let mut list = Vec::new(rt.alloc());
-//! list.push(device(rt.alloc(), b"rack-1-pdu")?)?;
-//! list.push(device(rt.alloc(), b"rack-2-pdu")?)?;
-//! let devices = Devices::new(list)?;
-//! assert_eq!(rt; devices.find(b"rack-2-pdu"), Some(1));
-//! assert_eq!(rt; devices.find(b"rack-3-pdu"), None);
-//! let mut same = Vec::new(rt.alloc());
-//! same.push(device(rt.alloc(), b"rack-1-pdu")?)?;
-//! same.push(device(rt.alloc(), b"rack-1-pdu")?)?;
-//! assert_eq!(rt;
-//!     Devices::new(same).err(),
-//!     Some(RepeatedContext { number: 1 })
-//! );
+//! /// Two devices, whose contexts are these.
+//! fn two(alloc: Global, first: &[u8], second: &[u8]) -> Result<Vec<Device>, AllocError> {
+//!     let mut list = Vec::new(alloc);
+//!     list.push(device(alloc, first)?)?;
+//!     list.push(device(alloc, second)?)?;
+//!     Ok(list)
+//! }
+//!
+//! /// Which of two devices have these contexts.
+//! fn found(alloc: Global) -> Result<(Option<usize>, Option<usize>), Fail> {
+//!     let list = two(alloc, b"rack-1-pdu", b"rack-2-pdu")?;
+//!     let devices = Devices::new(list)?;
+//!     let second = devices.find(b"rack-2-pdu");
+//!     Ok((second, devices.find(b"rack-3-pdu")))
+//! }
+//!
+//! /// Why no two devices have one context.
+//! fn repeated(alloc: Global) -> Result<Option<RepeatedContext>, AllocError> {
+//!     let same = two(alloc, b"rack-1-pdu", b"rack-1-pdu")?;
+//!     Ok(Devices::new(same).err())
+//! }
+//!
+//! assert_eq!(rt; found(rt.alloc())?, (Some(1), None));
+//! let repeated = repeated(rt.alloc())?;
+//! assert_eq!(rt; repeated, Some(RepeatedContext { number: 1 }));
 //! ```
 //!
 //! ```
@@ -166,6 +193,7 @@
 //! use snmp_responder::Viewer;
 //! use snmp_walk::{Dialogue, Next, ReadOperation};
 //! use snmpsec_config::Config;
+//! use std::alloc::Global;
 //!
 //! const TABLES: &[u8] = b"\
 //! [[context]]\nname = ''\n\
@@ -181,25 +209,39 @@
 //! \xa1\x18\x02\x01\x63\x02\x01\x00\x02\x01\x00\x30\x0d\
 //! \x30\x0b\x06\x07\x2b\x06\x01\x02\x01\x01\x05\x05\x00";
 //!
-//! let config = Config::read(rt.alloc(), TABLES)?;
-//! let viewer = Viewer {
-//!     vacm: &config.access,
-//!     model: 3,
-//!     name: b"ann",
-//!     level: Level::NoAuthNoPriv,
-//!     context: b"",
-//! };
-//! let request = Pdu {
-//!     tag: PduType::GetNextRequest.tag(),
-//!     id: 7,
-//!     second: 0,
-//!     third: 0,
-//!     list: ASKED,
-//! };
-//! let operation = ReadOperation::GetNext;
-//! let mut dialogue = Dialogue::new(rt.alloc(), &viewer, operation, &request, 2)?;
-//! assert_eq!(rt; dialogue.go_on(&viewer), Next::Asks);
-//! let ask = write_read_ask(rt.alloc(), b"public", 99, operation, &dialogue)?;
+//! /// What the dialogue for a request asks, and the datagram that asks it.
+//! fn asked(alloc: Global, viewer: &Viewer<'_>) -> Result<(Next, Vec<u8>), Fail> {
+//!     let request = Pdu {
+//!         tag: PduType::GetNextRequest.tag(),
+//!         id: 7,
+//!         second: 0,
+//!         third: 0,
+//!         list: ASKED,
+//!     };
+//!     let operation = ReadOperation::GetNext;
+//!     let mut dialogue = Dialogue::new(alloc, viewer, operation, &request, 2)?;
+//!     let next = dialogue.go_on(viewer);
+//!     let ask = write_read_ask(alloc, b"public", 99, operation, &dialogue)?;
+//!     Ok((next, ask))
+//! }
+//!
+//! /// The same for ann.
+//! fn asked_for_ann(alloc: Global) -> Result<(Next, Vec<u8>), Fail> {
+//!     let config = Config::read(alloc, TABLES)?;
+//!     let viewer = Viewer {
+//!         vacm: &config.access,
+//!         model: 3,
+//!         name: b"ann",
+//!         level: Level::NoAuthNoPriv,
+//!         context: b"",
+//!     };
+//!     let asked = asked(alloc, &viewer);
+//!     drop(config);
+//!     asked
+//! }
+//!
+//! let (next, ask) = asked_for_ann(rt.alloc())?;
+//! assert_eq!(rt; next, Next::Asks);
 //! assert_eq!(rt; ask.as_slice(), ASK);
 //! ```
 //!
@@ -257,12 +299,14 @@
 #![tactic(auto)]
 
 mod ask;
+mod ask_device;
 mod asks;
 mod begin;
 mod bulk_request;
 mod client_message;
 mod device_answer;
 mod devices;
+mod first_work;
 mod gate;
 mod hidden;
 mod laws;

@@ -1,46 +1,37 @@
 //! What comes from clients.
 
-ghost use Rattle.std.specs.Prelude.{◌≡◌, ◌↔◌, ◌<◌, ◌≤◌, ◌/◌, ◌⊎◌, ℕ, List, Some, None, length, IfOk, IfSome, IsTrue};
+ghost use Rattle.std.specs.Prelude.{◌≡◌, ◌↔◌, ◌<◌, ◌≤◌, ◌/◌, ℕ, List, Some, length, IfOk, IfSome, IsTrue};
 ghost use Rattle.std.specs.Prelude.{MatchOption, OnErr};
 ghost use Rattle.std.specs.List.{HoldsAt};
-ghost use Rattle.snmp_msg.specs.Variables.{Variable};
 ghost use Rattle.snmp_incoming.specs.Answers.{given_of};
 ghost use Rattle.snmp_gate.specs.Question.{Question};
-ghost use Rattle.snmp_gate.specs.Messages.{question_given, question_in};
-ghost use Rattle.snmp_gate.specs.Beginning.{BeginsWell, IsDigestOf, IsNoRefusal, IsSet, IsUntaken, MaySetAll, TakenIn};
+ghost use Rattle.snmp_gate.specs.Messages.{question_in};
+ghost use Rattle.snmp_gate.specs.Beginning.{BeginsWell, IsDigestOf, IsNoRefusal, IsUntaken, TakenIn};
 ghost use Rattle.snmp_gate.specs.Bounds.{IsNew};
 ghost use Rattle.snmp_gate.specs.Devices.{IsDeviceOf};
 ghost use Rattle.snmp_gate.specs.History.{Happening};
 ghost use Rattle.snmp_gate.specs.Noting.{AsksSet, IsNotedAgain, IsNotedFor, IsUnnoted};
-ghost use Rattle.snmp_gate.specs.SetBegins.{SetStandsSo};
 ghost use Rattle.snmp_gate.specs.Sets.{KeepsSets};
 ghost use Rattle.snmp_gate.specs.Waiting.{ClientHappens, GateStands, IsAsBefore, IsRefusedBy, SameButSets, Stays};
-ghost use Rattle.snmp_gate.specs.Work.{EndingStands, OnwardStands};
+ghost use Rattle.snmp_gate.specs.Work.{OnwardStands};
 ghost use Rattle.snmp_gate.specs.Said.{IsUnasked, Said};
 ghost use Rattle.snmp_gate.specs.declared.devices.Device.{Device as DeviceIs};
 ghost use Rattle.vacm_core.specs.Tables.{Tables};
 
-use crate::begin::{begin, ending_of};
+use crate::begin::begin;
 use crate::gate::{ClientTaken, Gate};
-use crate::limits::GateLimits;
-use crate::named_task::NamedTask;
 use crate::onward::Onward;
-use crate::refused_access::access_refusal;
-use crate::reply::{Sealing, fits_client};
 use crate::requests::{Joined, WaitingRequest};
-use crate::set_answer::{NO_ACCESS, NO_ERROR, RESOURCE_UNAVAILABLE, ResponseStatus, TOO_BIG};
 use crate::sets::{SetNote, set_digest};
 use crate::task::Task;
 use crate::timer::Timer;
-use crate::viewing::{answers_of, pdu_of, viewer_of};
+use crate::viewing::pdu_of;
 use crate::waiting_message::WaitingMessage;
 use crate::work::{OpenRequest, RequestEnd, Work};
 use snmp_agent::Unhandled;
 use snmp_incoming::{Kept, Taken};
 use snmp_msg::PduType;
-use snmp_walk::BulkLimits;
-use std::alloc::{AllocError, Global};
-use vacm_core::{Vacm, ViewType};
+use std::alloc::AllocError;
 
 /// Returns the place of the request that a message asks again.
 fn place_of(
@@ -58,16 +49,8 @@ fn place_of(
     None
 }
 
-/// Returns the end of a request by a Response with this status, and the request's own bindings.
-fn own(status: i32, index: i32) -> RequestEnd
-    ensures { (tables : Tables) (q : Question) (told : Said) → IsSet q → IsUnasked told
-        → EndingStands tables q told result }
-{
-    RequestEnd::Own(ResponseStatus { status, index })
-}
-
 /// Returns what becomes of a request that goes on so, and which came now.
-fn work_of(device: usize, now: u64, onward: Onward) -> Work
+pub(crate) fn work_of(device: usize, now: u64, onward: Onward) -> Work
     ensures begins { (tables : Tables) (devices : List DeviceIs) (q : Question)
         → ((told : Said) → IsUnasked told → OnwardStands tables q told onward) → IsDeviceOf devices q.context device
         → BeginsWell tables devices q result }
@@ -94,43 +77,6 @@ fn asks_set(work: &Work) -> bool
     }
 }
 
-/// What the tables say of a Set.
-#[derive(Drop)]
-struct SetAccess {
-    /// Its end, if one of its variables may not be set.
-    refused: Option<RequestEnd>,
-    /// How many variables it sets.
-    bindings: usize,
-}
-
-/// Returns what the tables say of a Set by this message. The error is out of memory.
-fn set_access(
-    alloc: Global,
-    tables: &Vacm,
-    message: &WaitingMessage,
-) -> Result<SetAccess, AllocError>
-    ensures ends { IfOk result (λ access. IfSome access.refused (λ ending. (q : Question) (told : Said)
-        → IsUnasked told → EndingStands tables.now q told ending)) }
-    ensures may { IfOk result (λ access. (access.refused ≡ None) → (q : Question)
-        → question_in message.now ≡ Some q → IsSet q → MaySetAll tables.now q) }
-{
-    let taken = message.kept.taken();
-    let viewer = viewer_of(tables, &taken);
-    let pdu = pdu_of(&taken);
-    let answers = answers_of(alloc, &viewer, ViewType::Write, &pdu)?;
-    let bindings = answers.len();
-    match access_refusal(&answers, pdu.tag) {
-        Some(refusal) => Ok(SetAccess {
-            refused: Some(ending_of(refusal)),
-            bindings,
-        }),
-        None => Ok(SetAccess {
-            refused: None,
-            bindings,
-        }),
-    }
-}
-
 /// What is remembered of a Set before its device is asked.
 #[derive(Clone, Copy, PartialEq, Eq)]
 enum Noted {
@@ -150,14 +96,6 @@ fn noted_again(digest: Option<[u8; 32]>) -> Noted
         Some(_) => Noted::Now,
         None => Noted::NoSet,
     }
-}
-
-/// How a Set goes on.
-#[derive(Drop)]
-enum SetBegins {
-    Onward(Onward),
-    /// It came before, and what its device answered isn't known.
-    Unknown,
 }
 
 impl Gate {
@@ -335,159 +273,5 @@ impl Gate {
             SetNote::New => Ok(Noted::Now),
             SetNote::Repeated(_) | SetNote::NoRoom => Ok(Noted::Before),
         }
-    }
-
-    /// Returns what becomes of a request at first, which no application answers for this reason.
-    fn first_work(
-        &mut self,
-        now: u64,
-        message: &WaitingMessage,
-        unhandled: Option<Unhandled>,
-    ) -> Result<Option<Work>, AllocError>
-        ensures begins { IfOk result (λ begins. IfSome begins (λ work. (q : Question)
-            → question_in message.now ≡ Some q
-            → BeginsWell self.old.agent.tables self.old.devices.list.items q work)) }
-        ensures fresh { IfOk result (λ begins. IfSome begins (IsNew now)) }
-        ensures same { SameButSets self.old self.new }
-        ensures sets { KeepsSets now self.old.sets.sets.items self.new.sets.sets.items }
-    {
-        match unhandled {
-            Some(why) => Ok(Some(Work::Ends(RequestEnd::Unhandled(why)))),
-            None => self.handled_work(now, message),
-        }
-    }
-
-    /// Returns what becomes of a request at first. None: it is a Set that came before, and what its device answered
-    /// isn't known.
-    fn handled_work(
-        &mut self,
-        now: u64,
-        message: &WaitingMessage,
-    ) -> Result<Option<Work>, AllocError>
-        ensures begins { IfOk result (λ begins. IfSome begins (λ work. (q : Question)
-            → question_in message.now ≡ Some q
-            → BeginsWell self.old.agent.tables self.old.devices.list.items q work)) }
-        ensures fresh { IfOk result (λ begins. IfSome begins (IsNew now)) }
-        ensures same { SameButSets self.old self.new }
-        ensures sets { KeepsSets now self.old.sets.sets.items self.new.sets.sets.items }
-    {
-        let taken = message.kept.taken();
-        let Some(device) = self.devices.find(taken.scoped().name) else {
-            return Ok(Some(Work::Ends(RequestEnd::Unhandled(Unhandled::UnknownContexts))));
-        };
-        if pdu_of(&taken).tag != PduType::SetRequest.tag() {
-            let onward = self.begin_read(device, &taken)?;
-            let work = work_of(device, now, onward);
-            return Ok(Some(work));
-        }
-        match self.begin_set(now, device, message)? {
-            SetBegins::Onward(onward) => Ok(Some(work_of(device, now, onward))),
-            SetBegins::Unknown => Ok(None),
-        }
-    }
-
-    /// Returns how a request for values begins.
-    fn begin_read(&self, device: usize, taken: &Taken<'_>) -> Result<Onward, AllocError>
-        requires { device < length self.now.devices.list.items }
-        ensures { IfOk result (λ onward. (client : List ℕ) (q : Question) (told : Said)
-            → IsUnasked told → question_given client (given_of taken.now) ≡ Some q
-            → OnwardStands self.now.agent.tables q told onward) }
-    {
-        let device = &self.devices.list[device];
-        let bulk = BulkLimits {
-            rounds: self.limits.rounds,
-            repetitions: device.repetitions,
-            at_once: device.names,
-            gathered: self.limits.gathered,
-        };
-        let viewer = viewer_of(self.agent.tables(), taken);
-        begin(self.alloc, &viewer, &pdu_of(taken), &self.limits, &bulk)
-    }
-
-    /// Returns how a Set begins.
-    fn begin_set(
-        &mut self,
-        now: u64,
-        device: usize,
-        message: &WaitingMessage,
-    ) -> Result<SetBegins, AllocError>
-        requires { device < length self.old.devices.list.items }
-        ensures begins { IfOk result (λ begins. (q : Question) → question_in message.now ≡ Some q → IsSet q
-            → SetStandsSo self.old.agent.tables q begins) }
-        ensures same { SameButSets self.old self.new }
-        ensures sets { KeepsSets now self.old.sets.sets.items self.new.sets.sets.items }
-    {
-        let Some(digest) = message.digest else {
-            return Ok(SetBegins::Unknown);
-        };
-        let note = self.sets.look(now, &digest);
-        match note {
-            SetNote::Repeated(Some(says)) => Ok(SetBegins::Onward(Onward::Ends(RequestEnd::Own(
-                says,
-            )))),
-            SetNote::Repeated(None) => Ok(SetBegins::Unknown),
-            SetNote::New => self.begin_new_set(now, device, message, false),
-            SetNote::NoRoom => self.begin_new_set(now, device, message, true),
-        }
-    }
-
-    /// Returns how a Set begins that didn't come before.
-    fn begin_new_set(
-        &mut self,
-        now: u64,
-        device: usize,
-        message: &WaitingMessage,
-        is_full: bool,
-    ) -> Result<SetBegins, AllocError>
-        requires { device < length self.old.devices.list.items }
-        ensures begins { IfOk result (λ begins. (q : Question) → question_in message.now ≡ Some q → IsSet q
-            → SetStandsSo self.old.agent.tables q begins) }
-        ensures same { SameButSets self.old self.new }
-        ensures sets { self.new.sets ≡ self.old.sets }
-    {
-        if let Some(ending) = self.refused_set(now, device, message)? {
-            return Ok(SetBegins::Onward(Onward::Ends(ending)));
-        }
-        if is_full {
-            return Ok(SetBegins::Onward(Onward::Ends(own(RESOURCE_UNAVAILABLE, 0))));
-        }
-        Ok(SetBegins::Onward(Onward::Asks(NamedTask { task: Task::Set })))
-    }
-
-    /// Returns the end of a Set that isn't asked of its device, whatever is remembered.
-    fn refused_set(
-        &mut self,
-        now: u64,
-        device: usize,
-        message: &WaitingMessage,
-    ) -> Result<Option<RequestEnd>, AllocError>
-        requires { device < length self.old.devices.list.items }
-        ensures ends { IfOk result (λ refused. IfSome refused (λ ending. (q : Question) (told : Said)
-            → IsSet q → IsUnasked told → EndingStands self.old.agent.tables q told ending)) }
-        ensures may { IfOk result (λ refused. (refused ≡ None) → (q : Question)
-            → question_in message.now ≡ Some q → IsSet q → MaySetAll self.old.agent.tables q) }
-        ensures same { SameButSets self.old self.new }
-        ensures sets { self.new.sets ≡ self.old.sets }
-    {
-        let SetAccess { refused, bindings } = set_access(self.alloc, self.agent.tables(), message)?;
-        if let Some(ending) = refused {
-            return Ok(Some(ending));
-        }
-        if !fits_client(
-            self.alloc,
-            &mut self.agent,
-            now / 1000,
-            message,
-            &self.limits,
-        )? {
-            return Ok(Some(own(TOO_BIG, 0)));
-        }
-        if bindings == 0 {
-            return Ok(Some(own(NO_ERROR, 0)));
-        }
-        if self.devices.list[device].write_community.is_none() {
-            return Ok(Some(own(NO_ACCESS, 1)));
-        }
-        Ok(None)
     }
 }

@@ -38,6 +38,7 @@
 //! ```
 #![tactic(auto)]
 
+mod discover;
 mod event;
 mod file;
 mod laws;

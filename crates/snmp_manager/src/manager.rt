@@ -1,7 +1,7 @@
 //! The manager.
 
-ghost use Rattle.std.specs.Prelude.{◌≡◌, ◌+◌, ◌<◌, ◌≤◌, ◌⊎◌, ℕ, pos, List, [], All, length, map, slice_get, Some};
-ghost use Rattle.std.specs.Prelude.{Ok, Err};
+ghost use Rattle.std.specs.Prelude.{◌≡◌, ◌+◌, ◌<◌, ◌≤◌, ◌⊎◌, ℕ, List, All, length, map, slice_get, Some};
+ghost use Rattle.std.specs.Prelude.{Err};
 ghost use Rattle.std.specs.Prelude.{IfOk, IfErr, IfSome, IsOk, IsSome, MatchResult, OnErr, OnOk};
 ghost use Rattle.std.specs.Global.{Vec as Octets};
 ghost use Rattle.std.specs.Option.{option_map};
@@ -9,7 +9,6 @@ ghost use Rattle.engine_clock.specs.Pairs.{IsPair};
 ghost use Rattle.engine_clock.specs.Marks.{HoldsAll, SeenPair, mark_at, pair_at, IsMarkJoinOf, IsJoinOf};
 ghost use Rattle.engine_clock.specs.Saved.{AreMarks, listing};
 ghost use Rattle.engine_clock.specs.Windows.{notion_at};
-ghost use Rattle.snmp_ber.specs.declared.level.Level.TheVariants.{NoAuthNoPriv};
 ghost use Rattle.snmp_ber.specs.declared.number.TheConstants.{MAX_INTEGER32};
 ghost use Rattle.usm_core.specs.Verified.{manager};
 ghost use Rattle.usm_core.specs.Answers.{seal_answer};
@@ -19,9 +18,9 @@ ghost use Rattle.snmp_incoming.specs.Answers.{answer_of, IsPlain};
 ghost use Rattle.snmp_msg.specs.Pdu.{IsSpelled};
 ghost use Rattle.snmp_msg.specs.PduTypes.{IsPduTag};
 ghost use Rattle.snmp_outgoing.specs.Bodies.{BodyFits, front_in, variables_in, pdu_in, pdu_after};
-ghost use Rattle.snmp_outgoing.specs.Requests.{request, requesting, discovering};
+ghost use Rattle.snmp_outgoing.specs.Requests.{request, requesting};
 ghost use Rattle.snmp_outgoing.specs.Sends.{CanSend, RefusesSender};
-ghost use Rattle.snmp_manager.specs.Pendings.{Remembers, IsPending, request_answer};
+ghost use Rattle.snmp_manager.specs.Pendings.{IsPending, request_answer};
 ghost use Rattle.snmp_manager.specs.Sent.{IsAcceptedByAgents};
 ghost use Rattle.snmp_manager.specs.Known.{IsLatest, datagrams_of};
 ghost use Rattle.snmp_manager.specs.Takes.{Takes, HoldsAuthentic, IsOnceLearned, TakesNoMemory, kept_answer};
@@ -33,13 +32,13 @@ ghost use Rattle.snmp_message.specs.Refusals.{IsRefused};
 use crate::learning::learn;
 use crate::outcome::{Outcome, Stopped};
 use crate::pending::Pending;
-use crate::requests::{no_pair, written_pair};
+use crate::requests::written_pair;
 use crate::target::Target;
 use crate::weighing::{weigh, weigh_kept};
 use engine_clock::{Clocks, EngineId, Mark, Pair};
 use snmp_ber::Level;
 use snmp_incoming::{Kept, Taken};
-use snmp_msg::{Header, PduType, Refusal, RefusedAt, Spelled, is_confirmed};
+use snmp_msg::{Header, RefusedAt, Spelled, is_confirmed};
 use snmp_outgoing::{
     Body, Envelope, Front, spoken_is_accepted, supports, write_body_of, write_plain,
 };
@@ -51,9 +50,9 @@ use usm_core::{Role, Users};
 /// the caller keeps.
 #[derive(Drop)]
 pub struct Manager {
-    alloc: Global,
-    users: Users,
-    clocks: Clocks,
+    pub(crate) alloc: Global,
+    pub(crate) users: Users,
+    pub(crate) clocks: Clocks,
 }
 
 impl Model for Manager {
@@ -349,44 +348,6 @@ impl Manager {
         };
         let text = write_body_of(&mut self.users, &envelope, front, bindings)?;
         Ok((text, Pending::of(self.alloc, &envelope, front)?))
-    }
-
-    /// The request by which an engine is discovered (RFC 3414, section 4), and what is to be remembered of
-    /// it: a GetRequest of nothing with this msgID and request-id, for no engine and no user. An agent
-    /// answers with a Report that has its engine ID. The error is out of memory.
-    pub fn discover(&self, id: u32) -> Result<(Vec<u8>, Pending), AllocError>
-        requires { id ≤ MAX_INTEGER32 }
-        ensures text { IfOk result (λ sent. Seals self.now.users
-            (discovering id) (Ok sent.0.items)) }
-        ensures pending { IfOk result (λ sent. Remembers sent.1 id [] [] NoAuthNoPriv [] []
-            (pos id)) }
-    {
-        let body = Body {
-            context_engine: &[],
-            context_name: &[],
-            tag: PduType::GetRequest.tag(),
-            id: id as i32,
-            second: 0,
-            third: 0,
-            bindings: &[],
-        };
-        let envelope = Envelope {
-            level: Level::NoAuthNoPriv,
-            id,
-            reportable: true,
-            engine: &[],
-            pair: no_pair(),
-            user: &[],
-            salt: [0; 8],
-        };
-        let text = match write_plain(&self.users, &envelope, &body) {
-            Ok(text) => text,
-            Err(refused) => match refused.refusal {
-                Refusal::TooLarge => unreachable!(),
-                _ => return Err(AllocError),
-            },
-        };
-        Ok((text, Pending::of(self.alloc, &envelope, &body.front())?))
     }
 
     /// A message with any header and any ScopedPDU, as `Users::seal` writes it. No clock is looked at.

@@ -1,6 +1,6 @@
 -- What a manager's requests are sent as (RFC 3414, sections 3.1 and 4).
 --
--- `requesting` and `discovering` (RFC 3414, sections 3.1 and 4). What a manager's request with a front and
+-- `requesting`, `discovering`, `asking_time` (RFC 3414, sections 3.1 and 4). What a manager's request with a front and
 -- bindings is sent as: at levels with authentication with the held boots and the notion of the time, or
 -- zeros where nothing is held. `front_in` and `variables_in` are the front and the bindings of a body.
 use Rattle.std.specs.Prelude.{◌≡◌, ◌≤◌, ℕ, pos, true, List, [], length, replicate, Option, Some, None}
@@ -80,4 +80,16 @@ discovering id = record {
   user = [];
   salt = replicate 8 0;
   scoped = scoped_text [] [] (pdu_text (pdu_with (pdu_tag GetRequest) (pos id) (pos 0) (pos 0) []));
+}
+
+-- the request for the time: a GetRequest of nothing, for this user at authNoPriv, with zeros for boots and time, which
+-- the engine answers with its own (RFC 3414, section 4)
+abbrev pub asking_time : ℕ → List ℕ → List ℕ → Sending
+asking_time id engine user = record {
+  header = header_at AuthNoPriv id true;
+  engine = engine;
+  pair = no_pair;
+  user = user;
+  salt = replicate 8 0;
+  scoped = scoped_text engine [] (pdu_text (pdu_with (pdu_tag GetRequest) (pos id) (pos 0) (pos 0) []));
 }

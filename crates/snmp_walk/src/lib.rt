@@ -6,7 +6,8 @@
 //! use snmp_ber::{Level, Oid};
 //! use snmp_responder::Viewer;
 //! use snmp_walk::{Column, ReadOperation};
-//! use snmpsec_config::Config;
+//! use snmpsec_config::{Config, ConfigFault};
+//! use std::alloc::Global;
 //!
 //! const TABLES: &[u8] = b"\
 //! [[context]]\nname = ''\n\
@@ -14,22 +15,33 @@
 //! [[access]]\ngroup = 'readers'\nprefix = ''\nmatch = 'exact'\nmodel = 3\nlevel = 'noAuthNoPriv'\nread = 'all'\n\
 //! [[family]]\nview = 'all'\nsubtree = '1.3.6.1.2.1.2'\ninclude = true\n";
 //!
+//! /// Whether a walk from the name asks for the place, and a Get of the hidden name for anything.
+//! fn asked(
+//!     alloc: Global,
+//!     name: &Oid,
+//!     place: &Oid,
+//!     hidden: &Oid,
+//! ) -> Result<(bool, bool), ConfigFault> {
+//!     let config = Config::read(alloc, TABLES)?;
+//!     let viewer = Viewer {
+//!         vacm: &config.access,
+//!         model: 3,
+//!         name: b"ann",
+//!         level: Level::NoAuthNoPriv,
+//!         context: b"",
+//!     };
+//!     let mut walk = Column::new(&viewer, ReadOperation::GetNext, name);
+//!     walk.go_on(&viewer);
+//!     let get = Column::new(&viewer, ReadOperation::Get, hidden);
+//!     let is_asked = walk.asked_name() == Some(place);
+//!     drop(config);
+//!     Ok((is_asked, get.is_open()))
+//! }
+//!
 //! let name = Oid::from_text("1.3.6.1.2.1").ok_or("arcs")?;
 //! let hidden = Oid::from_text("1.3.6.1.2.1.1.5.0").ok_or("arcs")?;
 //! let place = Oid::from_text("1.3.6.1.2.1.1.2147483647").ok_or("arcs")?;
-//! let config = Config::read(rt.alloc(), TABLES)?;
-//! let viewer = Viewer {
-//!     vacm: &config.access,
-//!     model: 3,
-//!     name: b"ann",
-//!     level: Level::NoAuthNoPriv,
-//!     context: b"",
-//! };
-//! let mut walk = Column::new(&viewer, ReadOperation::GetNext, &name);
-//! walk.go_on(&viewer);
-//! assert_eq!(rt; walk.asked_name() == Some(&place), true);
-//! let get = Column::new(&viewer, ReadOperation::Get, &hidden);
-//! assert_eq!(rt; get.is_open(), false);
+//! assert_eq!(rt; asked(rt.alloc(), &name, &place, &hidden)?, (true, false));
 //! ```
 //!
 //! ```
@@ -38,6 +50,7 @@
 //! use snmp_responder::Viewer;
 //! use snmp_walk::{BulkAnswered, BulkAsk, BulkDialogue, BulkLimits, BulkNext};
 //! use snmpsec_config::Config;
+//! use std::alloc::Global;
 //!
 //! const TABLES: &[u8] = b"\
 //! [[context]]\nname = ''\n\
@@ -59,39 +72,54 @@
 //!     gathered: 262_028,
 //! };
 //!
-//! let config = Config::read(rt.alloc(), TABLES)?;
-//! let viewer = Viewer {
-//!     vacm: &config.access,
-//!     model: 3,
-//!     name: b"ann",
-//!     level: Level::NoAuthNoPriv,
-//!     context: b"",
-//! };
-//! let request = Pdu {
-//!     tag: PduType::GetBulkRequest.tag(),
-//!     id: 7,
-//!     second: 0,
-//!     third: 2,
-//!     list: ASKED,
-//! };
-//! let answer = Pdu {
-//!     tag: PduType::Response.tag(),
-//!     id: 7,
-//!     second: 0,
-//!     third: 0,
-//!     list: TOLD,
-//! };
-//! let mut dialogue = BulkDialogue::new(rt.alloc(), &request, &LIMITS)?;
-//! assert_eq!(rt;
-//!     dialogue.go_on(&viewer),
-//!     BulkNext::Asks(BulkAsk::GetBulk(0, 2))
-//! );
-//! assert_eq!(rt;
-//!     dialogue.take(rt.alloc(), &viewer, &answer)?,
-//!     BulkAnswered::Taken
-//! );
-//! assert_eq!(rt; dialogue.go_on(&viewer), BulkNext::Ends);
-//! assert_eq!(rt; dialogue.front(rt.alloc())?.len(), 2);
+//! /// What is asked first, what the answer is, what is asked then, and how many bindings there are.
+//! type Went = (BulkNext, BulkAnswered, BulkNext, usize);
+//!
+//! fn went_on(alloc: Global, viewer: &Viewer<'_>, dialogue: &mut BulkDialogue) -> Result<Went, Fail> {
+//!     let answer = Pdu {
+//!         tag: PduType::Response.tag(),
+//!         id: 7,
+//!         second: 0,
+//!         third: 0,
+//!         list: TOLD,
+//!     };
+//!     let first = dialogue.go_on(viewer);
+//!     let answered = dialogue.take(alloc, viewer, &answer)?;
+//!     let then = dialogue.go_on(viewer);
+//!     Ok((first, answered, then, dialogue.front(alloc)?.len()))
+//! }
+//!
+//! fn went(alloc: Global, viewer: &Viewer<'_>) -> Result<Went, Fail> {
+//!     let request = Pdu {
+//!         tag: PduType::GetBulkRequest.tag(),
+//!         id: 7,
+//!         second: 0,
+//!         third: 2,
+//!         list: ASKED,
+//!     };
+//!     let mut dialogue = BulkDialogue::new(alloc, &request, &LIMITS)?;
+//!     went_on(alloc, viewer, &mut dialogue)
+//! }
+//!
+//! /// The dialogue for ann.
+//! fn went_for_ann(alloc: Global) -> Result<Went, Fail> {
+//!     let config = Config::read(alloc, TABLES)?;
+//!     let viewer = Viewer {
+//!         vacm: &config.access,
+//!         model: 3,
+//!         name: b"ann",
+//!         level: Level::NoAuthNoPriv,
+//!         context: b"",
+//!     };
+//!     let went = went(alloc, &viewer);
+//!     drop(config);
+//!     went
+//! }
+//!
+//! let (first, answered, then, bindings) = went_for_ann(rt.alloc())?;
+//! assert_eq!(rt; first, BulkNext::Asks(BulkAsk::GetBulk(0, 2)));
+//! assert_eq!(rt; answered, BulkAnswered::Taken);
+//! assert_eq!(rt; (then, bindings), (BulkNext::Ends, 2));
 //! ```
 //!
 //! ```
@@ -100,6 +128,7 @@
 //! use snmp_responder::Viewer;
 //! use snmp_walk::{Answered, Dialogue, Next, ReadOperation};
 //! use snmpsec_config::Config;
+//! use std::alloc::Global;
 //!
 //! const TABLES: &[u8] = b"\
 //! [[context]]\nname = ''\n\
@@ -112,36 +141,54 @@
 //!
 //! const TOLD: &[u8] = b"\x30\x12\x06\x08\x2b\x06\x01\x02\x01\x01\x05\x00\x04\x06router";
 //!
-//! let config = Config::read(rt.alloc(), TABLES)?;
-//! let viewer = Viewer {
-//!     vacm: &config.access,
-//!     model: 3,
-//!     name: b"ann",
-//!     level: Level::NoAuthNoPriv,
-//!     context: b"",
-//! };
-//! let request = Pdu {
-//!     tag: PduType::GetNextRequest.tag(),
-//!     id: 7,
-//!     second: 0,
-//!     third: 0,
-//!     list: ASKED,
-//! };
-//! let answer = Pdu {
-//!     tag: PduType::Response.tag(),
-//!     id: 7,
-//!     second: 0,
-//!     third: 0,
-//!     list: TOLD,
-//! };
-//! let mut dialogue = Dialogue::new(rt.alloc(), &viewer, ReadOperation::GetNext, &request, 2)?;
-//! assert_eq!(rt; dialogue.go_on(&viewer), Next::Asks);
-//! assert_eq!(rt;
-//!     dialogue.take(rt.alloc(), &viewer, &answer)?,
-//!     Answered::Taken
-//! );
-//! assert_eq!(rt; dialogue.go_on(&viewer), Next::Ends);
-//! assert_eq!(rt; dialogue.first_open(), None);
+//! /// What is asked first, what the answer is, what is asked then, and which binding is still open.
+//! type Went = (Next, Answered, Next, Option<usize>);
+//!
+//! fn went_on(alloc: Global, viewer: &Viewer<'_>, dialogue: &mut Dialogue) -> Result<Went, Fail> {
+//!     let answer = Pdu {
+//!         tag: PduType::Response.tag(),
+//!         id: 7,
+//!         second: 0,
+//!         third: 0,
+//!         list: TOLD,
+//!     };
+//!     let first = dialogue.go_on(viewer);
+//!     let answered = dialogue.take(alloc, viewer, &answer)?;
+//!     let then = dialogue.go_on(viewer);
+//!     Ok((first, answered, then, dialogue.first_open()))
+//! }
+//!
+//! fn went(alloc: Global, viewer: &Viewer<'_>) -> Result<Went, Fail> {
+//!     let request = Pdu {
+//!         tag: PduType::GetNextRequest.tag(),
+//!         id: 7,
+//!         second: 0,
+//!         third: 0,
+//!         list: ASKED,
+//!     };
+//!     let mut dialogue = Dialogue::new(alloc, viewer, ReadOperation::GetNext, &request, 2)?;
+//!     went_on(alloc, viewer, &mut dialogue)
+//! }
+//!
+//! /// The dialogue for ann.
+//! fn went_for_ann(alloc: Global) -> Result<Went, Fail> {
+//!     let config = Config::read(alloc, TABLES)?;
+//!     let viewer = Viewer {
+//!         vacm: &config.access,
+//!         model: 3,
+//!         name: b"ann",
+//!         level: Level::NoAuthNoPriv,
+//!         context: b"",
+//!     };
+//!     let went = went(alloc, &viewer);
+//!     drop(config);
+//!     went
+//! }
+//!
+//! let (first, answered, then, open) = went_for_ann(rt.alloc())?;
+//! assert_eq!(rt; first, Next::Asks);
+//! assert_eq!(rt; answered, Answered::Taken);
+//! assert_eq!(rt; (then, open), (Next::Ends, None));
 //! ```
 #![tactic(auto)]
 
@@ -150,6 +197,7 @@ mod bulk_answer;
 mod bulk_ask;
 mod bulk_column;
 mod bulk_dialogue;
+mod bulk_take;
 mod column;
 mod dialogue;
 mod failure;

@@ -16,10 +16,16 @@
 //! ```
 //! use snmpsec_access::hint_text;
 //! use snmpsec_config::AccessConfig;
+//! use std::alloc::{AllocError, Global};
+//!
+//! /// What is probably a mistake in a configuration.
+//! fn hints(alloc: Global, text: &[u8]) -> Result<Vec<u8>, AllocError> {
+//!     let config = AccessConfig::read(alloc, text).map_err(|_| AllocError)?;
+//!     hint_text(alloc, text, &config.rows)
+//! }
 //!
 //! let text = b"[[group]]\nmodel = 3\nname = 'ann'\ngroup = 'g'\n";
-//! let config = AccessConfig::read(rt.alloc(), text)?;
-//! let hints = hint_text(rt.alloc(), text, &config.rows)?;
+//! let hints = hints(rt.alloc(), text)?;
 //! assert!(rt; hints.starts_with(b"snmpsec: group 0, line 1: "));
 //! ```
 #![tactic(auto)]

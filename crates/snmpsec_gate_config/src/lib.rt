@@ -3,23 +3,34 @@
 //!
 //! ```
 //! use snmpsec_gate_config::GateConfig;
+//! use std::alloc::Global;
 //!
 //! const TEXT: &[u8] = b"\
 //! [gate]\nengine = '80001f8804676174652d31'\nboots = '/var/lib/snmpsec-gate/boots'\nlisten = ['192.0.2.1:161']\n\
 //! [[device]]\ncontext = 'rack-1-pdu'\naddress = '10.1.0.7:161'\ncommunity = 'read-only'\n";
 //!
-//! let config = GateConfig::read(rt.alloc(), TEXT)?;
-//! assert_eq!(rt; config.gate.limits.waiting, 1024);
-//! let device = config.devices.first().ok_or("a device")?;
-//! assert_eq!(rt; device.address.port(), 161);
-//! assert!(rt; device.write_community.is_none());
-//! let fault = GateConfig::read(rt.alloc(), b"[gate]\n")
-//!     .err()
-//!     .ok_or("a fault")?;
-//! assert_eq!(rt;
-//!     fault.why(rt.alloc())?.as_str(),
-//!     "gate: engine: missing, an engine ID of 5 to 32 octets in hex"
-//! );
+//! /// How many requests may wait, the port of the first device, and whether it has a community for Sets.
+//! fn said(config: &GateConfig) -> Result<(usize, u16, bool), Fail> {
+//!     let device = config.devices.first().ok_or("a device")?;
+//!     let can_set = device.write_community.is_some();
+//!     Ok((config.gate.limits.waiting, device.address.port(), can_set))
+//! }
+//!
+//! fn read(alloc: Global) -> Result<(usize, u16, bool), Fail> {
+//!     let config = GateConfig::read(alloc, TEXT)?;
+//!     said(&config)
+//! }
+//!
+//! /// Why a configuration is refused.
+//! fn why(alloc: Global, text: &[u8]) -> Result<String, Fail> {
+//!     let fault = GateConfig::read(alloc, text).err().ok_or("a fault")?;
+//!     Ok(fault.why(alloc)?)
+//! }
+//!
+//! assert_eq!(rt; read(rt.alloc())?, (1024, 161, false));
+//! let why = why(rt.alloc(), b"[gate]\n")?;
+//! let wanted = "gate: engine: missing, an engine ID of 5 to 32 octets in hex";
+//! assert_eq!(rt; why.as_str(), wanted);
 //! ```
 #![tactic(auto)]
 

@@ -1,6 +1,8 @@
 //! An example of each library of the gateway: `tools/crate-examples` puts it at the head of the library's root file.
 mod of_gate_handles;
 mod of_snmp_community;
+mod of_snmp_forward;
+mod of_snmp_forward_originator;
 mod of_snmp_gate;
 mod of_snmp_gate_access;
 mod of_snmp_gate_asks;

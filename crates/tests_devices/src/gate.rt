@@ -4,37 +4,46 @@ use snmp_gate::{
     SETS_LIMIT, SetNote, Timer, WaitingRequests, access_refusal, set_digest, set_outcome,
 };
 use snmp_msg::PduType;
+use std::alloc::AllocError;
+use std::process::Abort;
 use std::test::Fail;
 use vacm_core::Access;
 
-#[test]
-fn no_set_goes_out_if_too_many_are_remembered(rt: HostRuntime) -> Result<(), Fail> {
-    let mut sets = RememberedSets::new(rt.alloc());
+/// As many Sets are noted as are remembered at once.
+fn fill(rt: &impl Abort, sets: &mut RememberedSets) -> Result<(), AllocError> {
     for number in 0..SETS_LIMIT as u32 {
         let digest = set_digest(number.to_be_bytes().as_slice());
         assert_eq!(rt; sets.note(5, &digest)?, SetNote::New);
     }
+    Ok(())
+}
+
+/// A Set more has no room until the others are forgotten, and is then remembered itself.
+fn assert_no_room(rt: &impl Abort, sets: &mut RememberedSets) -> Result<(), AllocError> {
     let digest = set_digest(b"one more");
     assert_eq!(rt; sets.note(301_005, &digest)?, SetNote::NoRoom);
     assert!(rt; sets.find(&digest).is_none());
     assert_eq!(rt; sets.note(301_006, &digest)?, SetNote::New);
-    sets.tell(
-        &digest,
-        ResponseStatus {
-            status: 0,
-            index: 0,
-        },
-    );
-    assert_eq!(rt;
-        sets.note(301_006, &digest)?,
-        SetNote::Repeated(Some(ResponseStatus {
-            status: 0,
-            index: 0
-        }))
-    );
+    let told = ResponseStatus {
+        status: 0,
+        index: 0,
+    };
+    sets.tell(&digest, told);
+    assert_eq!(rt; sets.note(301_006, &digest)?, SetNote::Repeated(Some(told)));
     sets.forget(602_007);
     assert!(rt; sets.find(&digest).is_none());
     Ok(())
+}
+
+fn assert_filled(rt: &impl Abort, sets: &mut RememberedSets) -> Result<(), AllocError> {
+    fill(rt, sets)?;
+    assert_no_room(rt, sets)
+}
+
+#[test]
+fn no_set_goes_out_if_too_many_are_remembered(rt: HostRuntime) -> Result<(), AllocError> {
+    let mut sets = RememberedSets::new(rt.alloc());
+    assert_filled(&rt, &mut sets)
 }
 
 #[test]

@@ -1,6 +1,7 @@
 //! The configuration of a gateway where a growth of memory was refused, and the call is made again.
 use snmpsec_gate_config::{GateConfig, GateFault};
 use std::alloc::Global;
+use std::process::Abort;
 use std::test::Fail;
 
 const TEXT: &[u8] = b"\
@@ -18,12 +19,16 @@ fn read(alloc: Global) -> Result<GateConfig, GateFault> {
     }
 }
 
-#[test]
-fn a_refused_growth_reads_the_same_gateway(rt: HostRuntime) -> Result<(), Fail> {
-    let config = read(rt.alloc())?;
+fn assert_read(rt: &impl Abort, config: &GateConfig) -> Result<(), Fail> {
     assert_eq!(rt; (config.gate.listen.len(), config.devices.len()), (2, 2));
     let second = config.devices.get(1).ok_or("a device")?;
     assert!(rt; second.write_community.is_some());
     assert_eq!(rt; (config.gate.traps.len(), config.receivers.len()), (1, 1));
     Ok(())
+}
+
+#[test]
+fn a_refused_growth_reads_the_same_gateway(rt: HostRuntime) -> Result<(), Fail> {
+    let config = read(rt.alloc())?;
+    assert_read(&rt, &config)
 }

@@ -1,5 +1,5 @@
-//! What a refused growth of memory leaves in the libraries between a gateway's clients and its devices, and an example
-//! of each of them.
+//! What a refused growth of memory leaves in the libraries of a gateway, between its clients and its devices and of
+//! notifications, and an example of each of them.
 #![tactic(auto)]
 
 #[cfg(test)]
@@ -8,5 +8,9 @@ mod examples;
 mod gate;
 #[cfg(test)]
 mod gate_config;
+#[cfg(test)]
+mod informs;
+#[cfg(test)]
+mod made;
 #[cfg(test)]
 mod walk;

@@ -144,7 +144,9 @@ fn assert_get_bulk_seen(rt: &impl Abort, alloc: Global, viewer: &Viewer<'_>) -> 
 #[test]
 fn a_refused_growth_leaves_a_get_bulk(rt: HostRuntime) -> Result<(), Fail> {
     let config = config_after_refusal(rt.alloc())?;
-    assert_get_bulk_seen(&rt, rt.alloc(), &viewer_of(&config))
+    let seen = assert_get_bulk_seen(&rt, rt.alloc(), &viewer_of(&config));
+    drop(config);
+    seen
 }
 
 fn dialogue_after_refusal(
@@ -197,5 +199,7 @@ fn assert_get_next_seen(rt: &impl Abort, alloc: Global, viewer: &Viewer<'_>) -> 
 #[test]
 fn a_refused_growth_leaves_a_get_next(rt: HostRuntime) -> Result<(), Fail> {
     let config = config_after_refusal(rt.alloc())?;
-    assert_get_next_seen(&rt, rt.alloc(), &viewer_of(&config))
+    let seen = assert_get_next_seen(&rt, rt.alloc(), &viewer_of(&config));
+    drop(config);
+    seen
 }

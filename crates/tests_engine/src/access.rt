@@ -42,6 +42,7 @@ fn has_no_context(alloc: Global, rows: &Rows, variable: &Oid) -> Result<bool, Va
     let vacm = loaded_again(alloc, rows)?;
     let level = Level::AuthPriv;
     let answer = vacm.is_access_allowed(3, b"ann", level, ViewType::Read, b"", variable);
+    drop(vacm);
     Ok(answer == Access::NoSuchContext)
 }
 

@@ -51,8 +51,8 @@ fn tables_after_refusal(alloc: Global) -> Result<Vacm, VacmFault> {
 }
 
 fn agent_after_refusal(alloc: Global) -> Result<Agent, Fail> {
-    let tables = tables_after_refusal(alloc)?;
     let users = users_after_refusal(alloc)?;
+    let tables = tables_after_refusal(alloc)?;
     Ok(Agent::new(alloc, own(), 7, 0, users, tables))
 }
 
@@ -88,6 +88,7 @@ fn a_refused_growth_reports_and_counts_nothing(rt: HostRuntime) -> Result<(), Fa
     let discovery = octets_after_refusal(rt.alloc(), DISCOVERY)?;
     let mut agent = agent_after_refusal(rt.alloc())?;
     assert_reported(&rt, &mut agent, &discovery);
+    drop(agent);
     Ok(())
 }
 
@@ -155,5 +156,7 @@ fn assert_answered(rt: &impl Abort, alloc: Global, agent: &mut Agent) -> Result<
 #[test]
 fn a_refused_growth_decides_and_answers_nothing(rt: HostRuntime) -> Result<(), Fail> {
     let mut agent = agent_after_refusal(rt.alloc())?;
-    assert_answered(&rt, rt.alloc(), &mut agent)
+    let answered = assert_answered(&rt, rt.alloc(), &mut agent);
+    drop(agent);
+    answered
 }

@@ -1,7 +1,7 @@
 //! Gateways: users, tables, devices and limits, and what a gateway of them takes and sends.
 
 use crate::shown::{say_answer, say_sent, say_taken};
-use engine_clock::EngineId;
+use engine_clock::{EngineId, Pair};
 use snmp_agent::Agent;
 use snmp_gate::{Device, Devices, Gate, GateLimits, Retries};
 use snmpsec_config::AccessConfig;
@@ -108,7 +108,7 @@ fn agent_of(
     users: Users,
     tables: Vacm,
 ) -> Option<Agent> {
-    if start.boots > 2_147_483_647 {
+    if start.boots > Pair::MAX {
         row.fail("boots of 31 bits");
         return None;
     }

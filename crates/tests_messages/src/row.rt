@@ -292,7 +292,12 @@ impl<'a> Row<'a> {
     }
 }
 
-/// Puts another value in the place.
+/// Puts another value there. A proof sees nothing of the type that is let go here.
+pub fn put<T: Drop>(place: &mut T, value: T) {
+    *place = value;
+}
+
+/// Puts another value there, or the first one.
 pub fn keep<T: Drop>(place: &mut Option<T>, value: T) {
     *place = Some(value);
 }

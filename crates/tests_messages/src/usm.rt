@@ -13,7 +13,7 @@ use crate::row::{Fault, Row};
 use crate::shown::{Hex, Text};
 use crate::subjects::Subject;
 use engine_clock::EngineId;
-use snmp_ber::Level;
+use snmp_ber::{Level, MAX_INTEGER32};
 use snmp_msg::{Header, Pdu, Refusal, RefusedAt, write_scoped};
 use std::alloc::Global;
 use usm_core::{Checked, Role, Users};
@@ -239,7 +239,7 @@ fn sealed(users: &mut Users, row: &mut Row<'_>) -> Option<Result<Vec<u8>, Refuse
     let (id, flags, engine, pair) = (row.number32(), row.octet(), row.octets(), pair_in(row));
     let (user, salt, name) = (row.name(), row.salt(), row.octets());
     let pdu = pdu_in(row)?;
-    if id > 2_147_483_647 || user.len() > 32 {
+    if id > MAX_INTEGER32 || user.len() > 32 {
         row.fail("a msgID of 31 bits, and a user name of at most 32 octets");
         return None;
     }

@@ -4,7 +4,7 @@ ghost use Rattle.vacm_core.specs.Tables.{HaveSameRows, tables_of};
 
 use std::alloc::Global;
 use std::fmt;
-use tests_messages::row::{Fault, Row, keep};
+use tests_messages::row::{Fault, Row, keep, put};
 use tests_messages::shown::Text;
 use tests_messages::subjects::Subject;
 use vacm_core::*;
@@ -76,7 +76,7 @@ impl Subject for Views {
 
     fn answer(&mut self, row: &mut Row<'_>) {
         match row.kind {
-            "new" => *self = Views::new(row.alloc),
+            "new" => put(self, Views::new(row.alloc)),
             "load" => self.load(row),
             "allowed" | "next" | "walk" => self.allowed(row),
             "explain" => explain(&self.rows, row),

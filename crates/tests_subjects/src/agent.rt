@@ -5,7 +5,7 @@ ghost use Rattle.snmp_msg.specs.Variables.{CanBeWritten, variable_of};
 
 use crate::access::{say_access, view_of};
 use snmp_agent::{Agent, Refused, Unhandled, status_of};
-use snmp_ber::Level;
+use snmp_ber::{Level, MAX_INTEGER32};
 use snmp_incoming::{Kept, Taken};
 use snmp_msg::{Binding, PduType, Refusal, RefusedAt};
 use snmp_outgoing::{Body, Counter, Front};
@@ -220,7 +220,7 @@ fn notify(agent: &mut Agent, row: &mut Row<'_>) {
     let Some(pdu) = pdu_in(row) else {
         return;
     };
-    if said.id > 2_147_483_647 || said.user.len() > 32 {
+    if said.id > MAX_INTEGER32 || said.user.len() > 32 {
         return row.fail("a notification");
     }
     let Ok(bindings) = bindings_of(row.alloc, &pdu) else {
@@ -247,7 +247,7 @@ fn notify_of(agent: &mut Agent, row: &mut Row<'_>) {
     let Some(pdu) = pdu_in(row) else {
         return;
     };
-    if said.id > 2_147_483_647 || said.user.len() > 32 {
+    if said.id > MAX_INTEGER32 || said.user.len() > 32 {
         return row.fail("a notification");
     }
     let Ok(bindings) = variables_of(row.alloc, &pdu) else {

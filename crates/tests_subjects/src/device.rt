@@ -6,7 +6,7 @@ use snmp_msg::Binding;
 use snmp_responder::{Instrumentation, Viewer, get_bulk, next_answers};
 use std::alloc::{AllocError, Global};
 use std::fmt;
-use tests_messages::row::{Fault, Row};
+use tests_messages::row::{Fault, Row, put};
 use tests_messages::shown::Hex;
 use tests_messages::subjects::Subject;
 use vacm_core::{Name, Vacm};
@@ -83,7 +83,7 @@ impl Subject for Device {
 
     fn answer(&mut self, row: &mut Row<'_>) {
         match row.kind {
-            "new" => *self = Device::new(row.alloc),
+            "new" => put(self, Device::new(row.alloc)),
             "object" => self.add_object(row),
             "variable" => self.add_variable(row),
             "get" | "get_next" | "get_bulk" => self.asked(row),

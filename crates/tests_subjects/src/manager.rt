@@ -7,7 +7,7 @@ ghost use Rattle.snmp_msg.specs.PduTypes.{IsPduTag};
 ghost use Rattle.snmp_msg.specs.Variables.{CanBeWritten, variable_of};
 
 use engine_clock::{Clocks, EngineId};
-use snmp_ber::Level;
+use snmp_ber::{Level, MAX_INTEGER32};
 use snmp_manager::{Manager, Outcome, Pending, Target, answer_of};
 use snmp_msg::{Binding, Pdu, Refusal, RefusedAt, VariableBinding};
 use snmp_outgoing::{Body, Front};
@@ -17,7 +17,7 @@ use tests_messages::answers::{refused_text, say_refused, say_taken};
 use tests_messages::clocks::{clocks_in, engine_in, say_mark, say_notion, say_pair};
 use tests_messages::pdu::{bindings_of, pdu_in, variables_of};
 use tests_messages::people::People;
-use tests_messages::row::{Row, keep};
+use tests_messages::row::{Row, keep, put};
 use tests_messages::shown::Text;
 use usm_core::Users;
 
@@ -55,7 +55,7 @@ impl Asking {
         let text = row.octets();
         let clocks = clocks_in(row, text, 0);
         if let Some(users) = people.users(row) {
-            self.manager = Manager::new(row.alloc, users, clocks);
+            put(&mut self.manager, Manager::new(row.alloc, users, clocks));
         }
     }
 
@@ -63,7 +63,7 @@ impl Asking {
     pub fn answer(&mut self, row: &mut Row<'_>) {
         let manager = &mut self.manager;
         match row.kind {
-            "request" | "request_of" | "discover" => {
+            "request" | "request_of" | "request_time" | "discover" => {
                 let asked = request(manager, row);
                 self.requests.note(row, asked);
             }
@@ -240,7 +240,7 @@ fn absorb(manager: &mut Manager, row: &mut Row<'_>) {
 /// `discover ID`: the discovery request.
 fn discover(manager: &Manager, row: &mut Row<'_>) -> Option<Asked> {
     let id = row.number32();
-    if id > 2_147_483_647 {
+    if id > MAX_INTEGER32 {
         row.fail("a msgID of 31 bits");
         return None;
     }
@@ -248,6 +248,16 @@ fn discover(manager: &Manager, row: &mut Row<'_>) -> Option<Asked> {
         Ok(asked) => Some(Ok(asked)),
         Err(_) => Some(Err(RefusedAt::plain(Refusal::OutOfMemory))),
     }
+}
+
+/// `request_time ID ENGINE USER`: the request by which the engine's boots and time are learned.
+fn request_time(manager: &mut Manager, row: &mut Row<'_>) -> Option<Asked> {
+    let (id, engine, user) = (row.number32(), engine_in(row), row.name());
+    if id > MAX_INTEGER32 || user.len() > 32 {
+        row.fail("a request for the time");
+        return None;
+    }
+    Some(manager.request_time(id, &engine, user))
 }
 
 /// What a row says of a request besides its PDU.
@@ -276,7 +286,7 @@ fn said_in<'a>(row: &mut Row<'a>) -> Option<Said<'a>>
         context: row.octets(),
         salt: row.salt(),
     };
-    if said.id > 2_147_483_647 || said.user.len() > 32 {
+    if said.id > MAX_INTEGER32 || said.user.len() > 32 {
         row.fail("a request");
         return None;
     }
@@ -370,11 +380,13 @@ fn request_in_octets(manager: &mut Manager, row: &mut Row<'_>) -> Option<Asked> 
     }
 }
 
-/// What is asked by a row `request`, `request_of` or `discover`. There is nothing where the row notes why.
+/// What is asked by a row `request`, `request_of`, `request_time` or `discover`. There is nothing where the row notes
+/// why.
 fn request(manager: &mut Manager, row: &mut Row<'_>) -> Option<Asked> {
     match row.kind {
         "request" => request_with_arcs(manager, row),
         "request_of" => request_in_octets(manager, row),
+        "request_time" => request_time(manager, row),
         _ => discover(manager, row),
     }
 }

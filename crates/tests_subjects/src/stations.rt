@@ -3,14 +3,13 @@
 use crate::access::Views;
 use crate::agent;
 use crate::manager::Asking;
+use engine_clock::Pair;
 use snmp_agent::Agent;
 use std::alloc::Global;
 use tests_messages::clocks::engine_in;
 use tests_messages::people::People;
 use tests_messages::row::{Fault, Row, keep};
 use tests_messages::subjects::Subject;
-use usm_core::Users;
-use vacm_core::Vacm;
 
 /// Users and tables of access, a manager and an agent.
 #[derive(Drop)]
@@ -45,23 +44,23 @@ impl Subject for Stations {
     }
 }
 
-/// `agent ENGINE BOOTS STARTED`: an agent of these users and tables.
-fn agent_of(users: Users, tables: Vacm, row: &mut Row<'_>) -> Option<Agent> {
-    let (engine, boots, started) = (engine_in(row), row.number32(), row.number());
-    if boots > 2_147_483_647 {
-        row.fail("boots of 31 bits");
-        return None;
-    }
-    Some(Agent::new(row.alloc, engine, boots, started, users, tables))
-}
-
 impl Stations {
     /// `agent ENGINE BOOTS STARTED`: an agent of the users who were loaded, and of the tables, which are loaded anew
     /// after it.
     fn begin_agent(&mut self, row: &mut Row<'_>) {
-        match (self.people.users(row), self.views.give()) {
-            (Some(users), Some(tables)) => self.agent = agent_of(users, tables, row),
-            _ => row.fail("tables that are loaded"),
+        let (engine, boots, started) = (engine_in(row), row.number32(), row.number());
+        if boots > Pair::MAX {
+            return row.fail("boots of 31 bits");
+        }
+        let Some(users) = self.people.users(row) else {
+            return;
+        };
+        match self.views.give() {
+            Some(tables) => {
+                let agent = Agent::new(row.alloc, engine, boots, started, users, tables);
+                keep(&mut self.agent, agent);
+            }
+            None => row.fail("tables that are loaded"),
         }
     }
 

@@ -8,7 +8,7 @@ use snmp_responder::Viewer;
 use snmp_walk::{BulkAsk, BulkDialogue, BulkLimits, BulkNext, Dialogue, Next, ReadOperation};
 use std::alloc::{AllocError, Global};
 use std::fmt;
-use tests_messages::row::{Fault, Row};
+use tests_messages::row::{Fault, Row, keep, put};
 use tests_messages::subjects::Subject;
 
 /// A dialogue.
@@ -180,6 +180,24 @@ impl Talk {
         }
     }
 
+    /// A row that begins a dialogue.
+    fn begun(row: &mut Row<'_>, viewer: &Viewer<'_>) -> Talk {
+        match row.kind {
+            "get" => Talk::begin(row, viewer, ReadOperation::Get),
+            "get_next" => Talk::begin(row, viewer, ReadOperation::GetNext),
+            _ => Talk::begin_bulk(row),
+        }
+    }
+
+    /// A row that goes on with a dialogue.
+    fn follow(&mut self, row: &mut Row<'_>, viewer: &Viewer<'_>) {
+        match row.kind {
+            "go_on" => self.go_on(row, viewer),
+            "answer" => self.take(row, viewer),
+            _ => self.respond(row),
+        }
+    }
+
     /// `go_on`.
     fn go_on(&mut self, row: &mut Row<'_>, viewer: &Viewer<'_>) {
         match self {
@@ -236,20 +254,17 @@ impl Walks {
     fn talked(&mut self, row: &mut Row<'_>) {
         let is_begin = matches!(row.kind, "get" | "get_next" | "get_bulk");
         if is_begin {
-            self.asker = Some(asker_in(row));
+            keep(&mut self.asker, asker_in(row));
         }
         let (Some(vacm), Some(asker)) = (self.views.tables(), &self.asker) else {
             row.fail("tables that are loaded, and who asks");
             return;
         };
         let viewer = asker.viewer(vacm);
-        match row.kind {
-            "get" => self.talk = Talk::begin(row, &viewer, ReadOperation::Get),
-            "get_next" => self.talk = Talk::begin(row, &viewer, ReadOperation::GetNext),
-            "get_bulk" => self.talk = Talk::begin_bulk(row),
-            "go_on" => self.talk.go_on(row, &viewer),
-            "answer" => self.talk.take(row, &viewer),
-            _ => self.talk.respond(row),
+        if is_begin {
+            put(&mut self.talk, Talk::begun(row, &viewer));
+        } else {
+            self.talk.follow(row, &viewer);
         }
     }
 }
@@ -261,7 +276,7 @@ impl Subject for Walks {
 
     fn answer(&mut self, row: &mut Row<'_>) {
         match row.kind {
-            "new" => *self = Walks::new(row.alloc),
+            "new" => put(self, Walks::new(row.alloc)),
             "get" | "get_next" | "get_bulk" | "go_on" | "answer" | "response" => self.talked(row),
             _ => self.views.answer(row),
         }

@@ -3,29 +3,52 @@
 //!
 //! ```
 //! use snmp_ber::{Level, Oid};
+//! use std::alloc::Global;
 //! use vacm_core::{Access, ContextRow, GroupRow, Name, Rows, Vacm, ViewType};
 //!
-//! let context = Name::of(b"").ok_or("a name")?;
-//! let name = Name::of(b"ann").ok_or("a name")?;
-//! let group = Name::of(b"readers").ok_or("a name")?;
-//! let mut rows = Rows {
-//!     contexts: Vec::new(rt.alloc()),
-//!     groups: Vec::new(rt.alloc()),
-//!     access: Vec::new(rt.alloc()),
-//!     families: Vec::new(rt.alloc()),
-//! };
-//! rows.contexts.push(ContextRow { name: context })?;
-//! rows.groups.push(GroupRow {
-//!     model: 3,
-//!     name,
-//!     group,
-//! })?;
-//! let vacm = Vacm::load(rt.alloc(), &rows)?;
-//! let variable = Oid::from_text("1.3.6.1.2.1.1.5.0").ok_or("arcs")?;
-//! let level = Level::AuthPriv;
-//! let ann = vacm.is_access_allowed(3, b"ann", level, ViewType::Read, b"", &variable);
+//! /// Puts ann into the group of readers.
+//! fn add_ann(rows: &mut Rows) -> Result<(), Fail> {
+//!     let context = Name::of(b"").ok_or("a name")?;
+//!     rows.contexts.push(ContextRow { name: context })?;
+//!     let name = Name::of(b"ann").ok_or("a name")?;
+//!     let group = Name::of(b"readers").ok_or("a name")?;
+//!     rows.groups.push(GroupRow {
+//!         model: 3,
+//!         name,
+//!         group,
+//!     })?;
+//!     Ok(())
+//! }
+//!
+//! /// Tables in which the group of readers has no access row.
+//! fn tables(alloc: Global) -> Result<Vacm, Fail> {
+//!     let mut rows = Rows {
+//!         contexts: Vec::new(alloc),
+//!         groups: Vec::new(alloc),
+//!         access: Vec::new(alloc),
+//!         families: Vec::new(alloc),
+//!     };
+//!     add_ann(&mut rows)?;
+//!     Ok(Vacm::load(alloc, &rows)?)
+//! }
+//!
+//! /// What the tables answer to a name that reads a variable.
+//! fn answer(vacm: &Vacm, name: &[u8], variable: &Oid) -> Access {
+//!     vacm.is_access_allowed(3, name, Level::AuthPriv, ViewType::Read, b"", variable)
+//! }
+//!
+//! /// What they answer to ann and to bob, who read sysName.0.
+//! fn answers(alloc: Global) -> Result<(Access, Access), Fail> {
+//!     let variable = Oid::from_text("1.3.6.1.2.1.1.5.0").ok_or("arcs")?;
+//!     let vacm = tables(alloc)?;
+//!     let ann = answer(&vacm, b"ann", &variable);
+//!     let bob = answer(&vacm, b"bob", &variable);
+//!     drop(vacm);
+//!     Ok((ann, bob))
+//! }
+//!
+//! let (ann, bob) = answers(rt.alloc())?;
 //! assert_eq!(rt; ann, Access::NoAccessEntry);
-//! let bob = vacm.is_access_allowed(3, b"bob", level, ViewType::Read, b"", &variable);
 //! assert_eq!(rt; bob, Access::NoGroupName);
 //! ```
 //!

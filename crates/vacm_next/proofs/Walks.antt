@@ -9,6 +9,7 @@ use Rattle.std.proofs.lemmas.Bool.Decides.{Decides-eqb}
 use Rattle.std.proofs.lemmas.List.{append-nil, take_all, take_more, length-take}
 use Rattle.std.proofs.lemmas.List.Elements.{All-take, All-from_recursion, recursion_from_All}
 use Rattle.snmp_ber.specs.Oid.{AreArcs, IsObjectId}
+use Rattle.snmp_ber.specs.declared.number.TheConstants.{MAX_INTEGER32}
 use Rattle.vacm_next.specs.Next.{IsBefore, IsUpto, IsLeastFrom, NoneFrom}
 use Rattle.vacm_next.specs.Walk.{IsLeastOf, NoneOf, ComesAfter, IsSeenFrom, IsSeenAfter, front_arcs, last_arc, place_before, IsPlace, WalksFrom, PassesNothing}
 use Rattle.vacm_next.proofs.Order.{is_less, is_greater, is_tied, which, before_or_from, not_both, before_is_upto, before_upto, before_longer, before_later_arc, next_is, upto_trans}
@@ -200,10 +201,10 @@ place_is_before : (name : List ℕ) → 1 ≤ length name → IsBefore (place_be
 place_is_before name some = subst (IsBefore (place_before name)) (sym (split_last name some)) (by (last_arc name == 0) refl)
   where
     by : (b : Bool) → (last_arc name == 0) ≡ b
-        → IsBefore (cond b (front_arcs name) (front_arcs name ++ (last_arc name - 1) ∷ (cond (nat_lt (length name) 128) (2147483647 ∷ []) []))) (front_arcs name ++ last_arc name ∷ [])
+        → IsBefore (cond b (front_arcs name) (front_arcs name ++ (last_arc name - 1) ∷ (cond (nat_lt (length name) 128) (MAX_INTEGER32 ∷ []) []))) (front_arcs name ++ last_arc name ∷ [])
     by true e = before_longer (front_arcs name) [] (last_arc name)
     by false e =
-        before_later_arc (front_arcs name) (cond (nat_lt (length name) 128) (2147483647 ∷ []) []) [] (last_arc name - 1) (last_arc name)
+        before_later_arc (front_arcs name) (cond (nat_lt (length name) 128) (MAX_INTEGER32 ∷ []) []) [] (last_arc name - 1) (last_arc name)
         (let some_arc : last_arc name ≢ 0 = λ z. (let t = (Decides-eqb (last_arc name) 0).1 z in let no : true ≡ false = sym t ∙ e in cc) in omega (arith, some_arc))
 
 -- ---- a walk

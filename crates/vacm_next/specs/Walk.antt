@@ -7,6 +7,7 @@
 use Rattle.std.specs.Prelude.{◌≡◌, ◌⊎◌, ℕ, ◌-◌, ◌==◌, if◌then◌else◌, nat_lt, List, [], ◌∷◌, ◌++◌, length, take}
 use Rattle.std.specs.Prelude.{slice_index}
 use Rattle.snmp_ber.specs.Oid.{AreArcs, IsObjectId}
+use Rattle.snmp_ber.specs.declared.number.TheConstants.{MAX_INTEGER32}
 use Rattle.vacm_next.specs.Next.{IsBefore, IsUpto}
 
 -- of all lists that are so, the least
@@ -41,7 +42,7 @@ last_arc name = slice_index name (length name - 1)
 abbrev pub place_before : List ℕ → List ℕ
 place_before name =
     if last_arc name == 0 then front_arcs name
-    else front_arcs name ++ (last_arc name - 1) ∷ (if nat_lt (length name) 128 then 2147483647 ∷ [] else [])
+    else front_arcs name ++ (last_arc name - 1) ∷ (if nat_lt (length name) 128 then MAX_INTEGER32 ∷ [] else [])
 
 -- the place before the next name, if it can be spelled and comes after the name that the walk has; or else that name
 abbrev pub IsPlace : List ℕ → List ℕ → List ℕ → Type 0

@@ -2,28 +2,47 @@
 //!
 //! ```
 //! use snmp_ber::{Level, Oid};
+//! use std::alloc::Global;
 //! use vacm_core::{ContextRow, GroupRow, Name, Rows, Vacm, ViewType};
 //! use vacm_next::next_in_view;
 //!
-//! let context = Name::of(b"").ok_or("a name")?;
-//! let name = Name::of(b"ann").ok_or("a name")?;
-//! let group = Name::of(b"readers").ok_or("a name")?;
-//! let mut rows = Rows {
-//!     contexts: Vec::new(rt.alloc()),
-//!     groups: Vec::new(rt.alloc()),
-//!     access: Vec::new(rt.alloc()),
-//!     families: Vec::new(rt.alloc()),
-//! };
-//! rows.contexts.push(ContextRow { name: context })?;
-//! rows.groups.push(GroupRow {
-//!     model: 3,
-//!     name,
-//!     group,
-//! })?;
-//! let vacm = Vacm::load(rt.alloc(), &rows)?;
+//! /// Puts ann into the group of readers.
+//! fn add_ann(rows: &mut Rows) -> Result<(), Fail> {
+//!     let context = Name::of(b"").ok_or("a name")?;
+//!     rows.contexts.push(ContextRow { name: context })?;
+//!     let name = Name::of(b"ann").ok_or("a name")?;
+//!     let group = Name::of(b"readers").ok_or("a name")?;
+//!     rows.groups.push(GroupRow {
+//!         model: 3,
+//!         name,
+//!         group,
+//!     })?;
+//!     Ok(())
+//! }
+//!
+//! /// Tables in which the group of readers has no access row.
+//! fn tables(alloc: Global) -> Result<Vacm, Fail> {
+//!     let mut rows = Rows {
+//!         contexts: Vec::new(alloc),
+//!         groups: Vec::new(alloc),
+//!         access: Vec::new(alloc),
+//!         families: Vec::new(alloc),
+//!     };
+//!     add_ann(&mut rows)?;
+//!     Ok(Vacm::load(alloc, &rows)?)
+//! }
+//!
+//! /// The next name from here on that ann may see.
+//! fn next_name(alloc: Global, from: &Oid) -> Result<Option<Oid>, Fail> {
+//!     let vacm = tables(alloc)?;
+//!     let level = Level::AuthPriv;
+//!     let next = next_in_view(&vacm, 3, b"ann", level, ViewType::Read, b"", from);
+//!     drop(vacm);
+//!     Ok(next)
+//! }
+//!
 //! let from = Oid::from_text("1.3.6.1.2.1").ok_or("arcs")?;
-//! let level = Level::AuthPriv;
-//! let next = next_in_view(&vacm, 3, b"ann", level, ViewType::Read, b"", &from);
+//! let next = next_name(rt.alloc(), &from)?;
 //! assert_eq!(rt; next.is_none(), true);
 //! ```
 #![tactic(auto)]

@@ -12,11 +12,8 @@ use crate::arc::with_arc;
 use crate::name::copy_of;
 use crate::next::next_seen;
 use arrayvec::ArrayVec;
-use snmp_ber::{Level, Oid};
+use snmp_ber::{Level, MAX_INTEGER32, Oid};
 use vacm_core::{Asking, Vacm, ViewType};
-
-/// The greatest arc of a device that has arcs of 31 bits.
-const GREATEST_SIGNED: u32 = 2_147_483_647;
 
 /// Returns the least name after this one, or None if there is none.
 fn name_after(name: &[u32]) -> Option<ArrayVec<u32, 128>>
@@ -82,7 +79,8 @@ fn place_before(name: &Oid) -> ArrayVec<u32, 128>
     };
     place.push(less);
     if !place.is_full() {
-        place.push(GREATEST_SIGNED);
+        // the greatest arc of a device that has arcs of 31 bits
+        place.push(MAX_INTEGER32);
     }
     place
 }

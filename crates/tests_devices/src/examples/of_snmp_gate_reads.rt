@@ -5,6 +5,7 @@ use snmp_msg::{Pdu, PduType};
 use snmp_responder::Viewer;
 use snmp_walk::{Dialogue, Next, ReadOperation};
 use snmpsec_config::Config;
+use std::alloc::Global;
 use std::test::Fail;
 
 const TABLES: &[u8] = b"\
@@ -21,16 +22,8 @@ const ASK: &[u8] = b"\x30\x25\x02\x01\x01\x04\x06public\
 \xa1\x18\x02\x01\x63\x02\x01\x00\x02\x01\x00\x30\x0d\
 \x30\x0b\x06\x07\x2b\x06\x01\x02\x01\x01\x05\x05\x00";
 
-#[test]
-fn a_device_is_asked_for_the_next_name(rt: HostRuntime) -> Result<(), Fail> {
-    let config = Config::read(rt.alloc(), TABLES)?;
-    let viewer = Viewer {
-        vacm: &config.access,
-        model: 3,
-        name: b"ann",
-        level: Level::NoAuthNoPriv,
-        context: b"",
-    };
+/// What the dialogue for a request asks, and the datagram that asks it.
+fn asked(alloc: Global, viewer: &Viewer<'_>) -> Result<(Next, Vec<u8>), Fail> {
     let request = Pdu {
         tag: PduType::GetNextRequest.tag(),
         id: 7,
@@ -39,9 +32,31 @@ fn a_device_is_asked_for_the_next_name(rt: HostRuntime) -> Result<(), Fail> {
         list: ASKED,
     };
     let operation = ReadOperation::GetNext;
-    let mut dialogue = Dialogue::new(rt.alloc(), &viewer, operation, &request, 2)?;
-    assert_eq!(rt; dialogue.go_on(&viewer), Next::Asks);
-    let ask = write_read_ask(rt.alloc(), b"public", 99, operation, &dialogue)?;
+    let mut dialogue = Dialogue::new(alloc, viewer, operation, &request, 2)?;
+    let next = dialogue.go_on(viewer);
+    let ask = write_read_ask(alloc, b"public", 99, operation, &dialogue)?;
+    Ok((next, ask))
+}
+
+/// The same for ann.
+fn asked_for_ann(alloc: Global) -> Result<(Next, Vec<u8>), Fail> {
+    let config = Config::read(alloc, TABLES)?;
+    let viewer = Viewer {
+        vacm: &config.access,
+        model: 3,
+        name: b"ann",
+        level: Level::NoAuthNoPriv,
+        context: b"",
+    };
+    let asked = asked(alloc, &viewer);
+    drop(config);
+    asked
+}
+
+#[test]
+fn a_device_is_asked_for_the_next_name(rt: HostRuntime) -> Result<(), Fail> {
+    let (next, ask) = asked_for_ann(rt.alloc())?;
+    assert_eq!(rt; next, Next::Asks);
     assert_eq!(rt; ask.as_slice(), ASK);
     Ok(())
 }

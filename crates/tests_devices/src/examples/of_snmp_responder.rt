@@ -2,7 +2,8 @@
 use snmp_ber::{Level, Oid};
 use snmp_msg::Binding;
 use snmp_responder::{Instrumentation, Viewer, get_next};
-use snmpsec_config::Config;
+use snmpsec_config::{Config, ConfigFault};
+use std::alloc::Global;
 use std::test::Fail;
 
 const TABLES: &[u8] = b"\
@@ -10,6 +11,26 @@ const TABLES: &[u8] = b"\
 [[group]]\nmodel = 3\nname = 'ann'\ngroup = 'readers'\n\
 [[access]]\ngroup = 'readers'\nprefix = ''\nmatch = 'exact'\nmodel = 3\nlevel = 'noAuthNoPriv'\nread = 'all'\n\
 [[family]]\nview = 'all'\nsubtree = '1.3'\ninclude = true\n";
+
+/// The tag of what ann is answered to a Get of the name, and the value that comes next.
+fn answered<'a>(
+    alloc: Global,
+    device: &Instrumentation<'a>,
+    name: &Oid,
+) -> Result<(u8, &'a [u8]), ConfigFault> {
+    let config = Config::read(alloc, TABLES)?;
+    let viewer = Viewer {
+        vacm: &config.access,
+        model: 3,
+        name: b"ann",
+        level: Level::NoAuthNoPriv,
+        context: b"",
+    };
+    let got = device.get(&viewer, name).tag;
+    let next = get_next(device, &viewer, name).content;
+    drop(config);
+    Ok((got, next))
+}
 
 #[test]
 fn a_device_answers_with_what_may_be_seen(rt: HostRuntime) -> Result<(), Fail> {
@@ -20,23 +41,13 @@ fn a_device_answers_with_what_may_be_seen(rt: HostRuntime) -> Result<(), Fail> {
         tag: 0x04,
         content: b"router",
     };
-    let config = Config::read(rt.alloc(), TABLES)?;
-    let viewer = Viewer {
-        vacm: &config.access,
-        model: 3,
-        name: b"ann",
-        level: Level::NoAuthNoPriv,
-        context: b"",
-    };
     let (objects, variables) = ([object], [variable]);
     let device = Instrumentation {
         objects: &objects,
         variables: &variables,
     };
-    assert_eq!(rt; device.get(&viewer, &objects[0]).tag, 0x81);
-    assert_eq!(rt;
-        get_next(&device, &viewer, &objects[0]).content,
-        b"router".as_slice()
-    );
+    let (tag, next) = answered(rt.alloc(), &device, &objects[0])?;
+    assert_eq!(rt; tag, 0x81);
+    assert_eq!(rt; next, b"router".as_slice());
     Ok(())
 }

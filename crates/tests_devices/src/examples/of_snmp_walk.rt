@@ -2,7 +2,8 @@
 use snmp_ber::{Level, Oid};
 use snmp_responder::Viewer;
 use snmp_walk::{Column, ReadOperation};
-use snmpsec_config::Config;
+use snmpsec_config::{Config, ConfigFault};
+use std::alloc::Global;
 use std::test::Fail;
 
 const TABLES: &[u8] = b"\
@@ -11,12 +12,14 @@ const TABLES: &[u8] = b"\
 [[access]]\ngroup = 'readers'\nprefix = ''\nmatch = 'exact'\nmodel = 3\nlevel = 'noAuthNoPriv'\nread = 'all'\n\
 [[family]]\nview = 'all'\nsubtree = '1.3.6.1.2.1.2'\ninclude = true\n";
 
-#[test]
-fn a_walk_asks_for_what_may_be_seen(rt: HostRuntime) -> Result<(), Fail> {
-    let name = Oid::from_text("1.3.6.1.2.1").ok_or("arcs")?;
-    let hidden = Oid::from_text("1.3.6.1.2.1.1.5.0").ok_or("arcs")?;
-    let place = Oid::from_text("1.3.6.1.2.1.1.2147483647").ok_or("arcs")?;
-    let config = Config::read(rt.alloc(), TABLES)?;
+/// Whether a walk from the name asks for the place, and a Get of the hidden name for anything.
+fn asked(
+    alloc: Global,
+    name: &Oid,
+    place: &Oid,
+    hidden: &Oid,
+) -> Result<(bool, bool), ConfigFault> {
+    let config = Config::read(alloc, TABLES)?;
     let viewer = Viewer {
         vacm: &config.access,
         model: 3,
@@ -24,10 +27,19 @@ fn a_walk_asks_for_what_may_be_seen(rt: HostRuntime) -> Result<(), Fail> {
         level: Level::NoAuthNoPriv,
         context: b"",
     };
-    let mut walk = Column::new(&viewer, ReadOperation::GetNext, &name);
+    let mut walk = Column::new(&viewer, ReadOperation::GetNext, name);
     walk.go_on(&viewer);
-    assert_eq!(rt; walk.asked_name() == Some(&place), true);
-    let get = Column::new(&viewer, ReadOperation::Get, &hidden);
-    assert_eq!(rt; get.is_open(), false);
+    let get = Column::new(&viewer, ReadOperation::Get, hidden);
+    let is_asked = walk.asked_name() == Some(place);
+    drop(config);
+    Ok((is_asked, get.is_open()))
+}
+
+#[test]
+fn a_walk_asks_for_what_may_be_seen(rt: HostRuntime) -> Result<(), Fail> {
+    let name = Oid::from_text("1.3.6.1.2.1").ok_or("arcs")?;
+    let hidden = Oid::from_text("1.3.6.1.2.1.1.5.0").ok_or("arcs")?;
+    let place = Oid::from_text("1.3.6.1.2.1.1.2147483647").ok_or("arcs")?;
+    assert_eq!(rt; asked(rt.alloc(), &name, &place, &hidden)?, (true, false));
     Ok(())
 }

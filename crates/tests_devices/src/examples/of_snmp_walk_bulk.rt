@@ -4,6 +4,7 @@ use snmp_msg::{Pdu, PduType};
 use snmp_responder::Viewer;
 use snmp_walk::{BulkAnswered, BulkAsk, BulkDialogue, BulkLimits, BulkNext};
 use snmpsec_config::Config;
+use std::alloc::Global;
 use std::test::Fail;
 
 const TABLES: &[u8] = b"\
@@ -26,23 +27,10 @@ const LIMITS: BulkLimits = BulkLimits {
     gathered: 262_028,
 };
 
-#[test]
-fn a_device_gives_two_repetitions(rt: HostRuntime) -> Result<(), Fail> {
-    let config = Config::read(rt.alloc(), TABLES)?;
-    let viewer = Viewer {
-        vacm: &config.access,
-        model: 3,
-        name: b"ann",
-        level: Level::NoAuthNoPriv,
-        context: b"",
-    };
-    let request = Pdu {
-        tag: PduType::GetBulkRequest.tag(),
-        id: 7,
-        second: 0,
-        third: 2,
-        list: ASKED,
-    };
+/// What is asked first, what the answer is, what is asked then, and how many bindings there are.
+type Went = (BulkNext, BulkAnswered, BulkNext, usize);
+
+fn went_on(alloc: Global, viewer: &Viewer<'_>, dialogue: &mut BulkDialogue) -> Result<Went, Fail> {
     let answer = Pdu {
         tag: PduType::Response.tag(),
         id: 7,
@@ -50,16 +38,44 @@ fn a_device_gives_two_repetitions(rt: HostRuntime) -> Result<(), Fail> {
         third: 0,
         list: TOLD,
     };
-    let mut dialogue = BulkDialogue::new(rt.alloc(), &request, &LIMITS)?;
-    assert_eq!(rt;
-        dialogue.go_on(&viewer),
-        BulkNext::Asks(BulkAsk::GetBulk(0, 2))
-    );
-    assert_eq!(rt;
-        dialogue.take(rt.alloc(), &viewer, &answer)?,
-        BulkAnswered::Taken
-    );
-    assert_eq!(rt; dialogue.go_on(&viewer), BulkNext::Ends);
-    assert_eq!(rt; dialogue.front(rt.alloc())?.len(), 2);
+    let first = dialogue.go_on(viewer);
+    let answered = dialogue.take(alloc, viewer, &answer)?;
+    let then = dialogue.go_on(viewer);
+    Ok((first, answered, then, dialogue.front(alloc)?.len()))
+}
+
+fn went(alloc: Global, viewer: &Viewer<'_>) -> Result<Went, Fail> {
+    let request = Pdu {
+        tag: PduType::GetBulkRequest.tag(),
+        id: 7,
+        second: 0,
+        third: 2,
+        list: ASKED,
+    };
+    let mut dialogue = BulkDialogue::new(alloc, &request, &LIMITS)?;
+    went_on(alloc, viewer, &mut dialogue)
+}
+
+/// The dialogue for ann.
+fn went_for_ann(alloc: Global) -> Result<Went, Fail> {
+    let config = Config::read(alloc, TABLES)?;
+    let viewer = Viewer {
+        vacm: &config.access,
+        model: 3,
+        name: b"ann",
+        level: Level::NoAuthNoPriv,
+        context: b"",
+    };
+    let went = went(alloc, &viewer);
+    drop(config);
+    went
+}
+
+#[test]
+fn a_device_gives_two_repetitions(rt: HostRuntime) -> Result<(), Fail> {
+    let (first, answered, then, bindings) = went_for_ann(rt.alloc())?;
+    assert_eq!(rt; first, BulkNext::Asks(BulkAsk::GetBulk(0, 2)));
+    assert_eq!(rt; answered, BulkAnswered::Taken);
+    assert_eq!(rt; (then, bindings), (BulkNext::Ends, 2));
     Ok(())
 }

@@ -4,29 +4,41 @@ use snmp_engine::{Agent, Answer, Manager, answer_of};
 use std::alloc::Global;
 use std::test::Fail;
 use usm_core::Users;
-use vacm_core::{Rows, Vacm};
+use vacm_core::{Rows, Vacm, VacmFault};
 
-/// An agent without users and rows, of boots 1.
-fn agent(alloc: Global, engine: EngineId) -> Result<Agent, Fail> {
+/// Tables without rows.
+fn tables(alloc: Global) -> Result<Vacm, VacmFault> {
     let rows = Rows {
         contexts: Vec::new(alloc),
         groups: Vec::new(alloc),
         access: Vec::new(alloc),
         families: Vec::new(alloc),
     };
-    let vacm = Vacm::load(alloc, &rows)?;
+    Vacm::load(alloc, &rows)
+}
+
+/// An agent without users and rows, of boots 1.
+fn agent(alloc: Global) -> Result<Agent, Fail> {
+    let engine = EngineId::of(b"\x80\x00\x1f\x88\x04k").ok_or("an engine ID")?;
     let users = Users::load(alloc, &[])?;
+    let vacm = tables(alloc)?;
     Ok(Agent::new(alloc, engine, 1, 0, users, vacm))
 }
 
-/// The report of an agent on a request.
-fn report_on(alloc: Global, request: &[u8]) -> Result<Vec<u8>, Fail> {
-    let engine = EngineId::of(b"\x80\x00\x1f\x88\x04k").ok_or("an engine ID")?;
-    let mut agent = agent(alloc, engine)?;
+/// The report of this agent on a request.
+fn report_of(agent: &mut Agent, request: &[u8]) -> Result<Vec<u8>, Fail> {
     match agent.take(1000, request) {
         Ok(_) => Err("a refusal".into()),
         Err(refused) => Ok(refused.report.ok_or("a report")?),
     }
+}
+
+/// The report of an agent on a request.
+fn report_on(alloc: Global, request: &[u8]) -> Result<Vec<u8>, Fail> {
+    let mut agent = agent(alloc)?;
+    let report = report_of(&mut agent, request);
+    drop(agent);
+    report
 }
 
 /// What the report is to a manager that discovers.

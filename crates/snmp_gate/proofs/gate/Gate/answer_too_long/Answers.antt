@@ -18,6 +18,7 @@ use Rattle.snmp_gate.specs.declared.work.Work.TheVariants.{Ends}
 use Rattle.snmp_gate.proofs.Bounded.{agent_same, bounded_worked, stays_on, stays_requests}
 use Rattle.snmp_gate.proofs.Histories.{Waiting, ended_all, moved, too_long}
 use Rattle.snmp_gate.proofs.Keeping.{stands_kept}
+use Rattle.snmp_gate.proofs.Same.{work_as_before}
 use Rattle.snmp_gate.proofs.SetsGoing.{ended_sets}
 use Rattle.snmp_gate.proofs.SetsKept.{keeps_same}
 use Rattle.snmp_gate.proofs.Todos.{worked_ended}
@@ -87,6 +88,7 @@ returns-in-Err-clause-err c =
       limits = ap (λ (x : Gate). x.limits) is;
       asks = asks;
       messages = ap messages_in groups;
+      work = work_as_before (groups_of g.requests.list.items) (groups_of c.work.new.self.list.items) groups;
       next = next;
       sets = inl sets;
       stands = stands_kept c.args.now g (record c.answer_at.new.self { requests = c.work.new.self }) (ap (λ (x : Gate). x.agent.tables) is) (ap (λ (x : Gate). x.devices) is) asks groups next

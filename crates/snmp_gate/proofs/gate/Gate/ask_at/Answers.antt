@@ -20,6 +20,7 @@ use Rattle.snmp_gate.proofs.GroupSteps.{group_at, on_err}
 use Rattle.snmp_gate.proofs.AsksKept.{asks_asked, asks_of_asked, free_again, free_own, is_free_in, long_lists}
 use Rattle.snmp_gate.proofs.Histories.{asked_all, asked_so_far, moved}
 use Rattle.snmp_gate.proofs.Keeping.{stands_kept, stays_as_before}
+use Rattle.snmp_gate.proofs.Same.{work_as_before}
 use Rattle.snmp_gate.proofs.SetsGoing.{asked_once, asked_sets, unasked_never}
 use Rattle.snmp_gate.proofs.SetsKept.{keeps_same}
 use Rattle.snmp_gate.specs.Waiting.{AsksStand, asks_in, fresh}
@@ -153,6 +154,7 @@ returns-in_err-ask-clause-err c =
       asks = map-set_same (λ (a : DeviceAsks). a.asks.items) asks c.device_at-device.result.0 c.ask.new.self c.index_mut.result.now
           (c.in_err-ask.ensures.err ∙ ap (λ (a : DeviceAsks). a.asks.items) c.index_mut.ensures.value);
       messages = refl;
+      work = work_as_before (groups_of c.args.self.now.requests.list.items) (groups_of c.args.self.now.requests.list.items) refl;
       next = refl;
       sets = inl refl;
       stands = stands_kept c.args.now c.args.self.now _ refl refl

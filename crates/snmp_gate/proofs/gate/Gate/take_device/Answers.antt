@@ -16,7 +16,7 @@ use Rattle.snmp_gate.proofs.AsksKept.{answered_asks, same_id}
 use Rattle.snmp_gate.proofs.Keeping.{stands_later}
 use Rattle.snmp_gate.proofs.Others.{chosen, open_other}
 use Rattle.snmp_gate.proofs.SetsGoing.{answered_sets, kept_stands}
-use Rattle.snmp_gate.proofs.Same.{same_messages}
+use Rattle.snmp_gate.proofs.Same.{same_messages, work_says_same_at}
 use Rattle.snmp_gate.proofs.Todos.{timely_set}
 use Rattle.std.proofs.lemmas.List.{get_or_default}
 use Rattle.snmp_gate.specs.Fits.{FitsRequest, WorkFits}
@@ -77,6 +77,7 @@ returns-in_err-fault-clause-err c =
       limits = refl;
       asks = refl;
       messages = same_messages rs place r s c.in-Some-place_of.ensures.place.within c.index_mut-request.ensures.value refl;
+      work = work_says_same_at rs place r s c.in-Some-place_of.ensures.place.within c.index_mut-request.ensures.value c.in_err-fault.ensures.err;
       next = refl;
       sets = inl refl;
       stands = kept_stands c.args.now g _ place r w refl refl refl refl refl refl c.in-Some-place_of.ensures.place.within c.index_mut-request.ensures.value c.in_err-fault.ensures.err;

@@ -1,4 +1,0 @@
-use Rattle.gate_handles.proofs.handle.rows_of.Goals as goal
-
-pub returns-in-Err-clause-refuses : goal.returns-in-Err-clause-refuses
-returns-in-Err-clause-refuses c = c.fault_of.ensures c.args.config.now c.in-Err.ensures.refuses

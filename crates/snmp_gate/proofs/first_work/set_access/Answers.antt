@@ -1,0 +1,23 @@
+use Rattle.std.proofs.Common.{List, ap, subst, sym, ◌∙◌, All, ℕ}
+use Rattle.std.specs.List.{AllZip}
+use Rattle.snmp_msg.specs.Variables.{Variable, variables_of}
+use Rattle.vacm_core.specs.declared.access.Access.{Access}
+use Rattle.vacm_core.specs.declared.access.ViewType.TheVariants.{Write}
+use Rattle.snmp_gate.specs.Messages.{IsAnswerFor, question_given, set_in}
+use Rattle.snmp_gate.proofs.Granted.{may_all}
+use Rattle.snmp_gate.proofs.first_work.set_access.Goals as goal
+
+pub returns-in-Some-clause-ends : goal.returns-in-Some-clause-ends
+returns-in-Some-clause-ends c q told = c.ending_of.ensures c.args.tables.now q told
+
+pub returns-clause-may : goal.returns-clause-may
+returns-clause-may c none q asked set =
+    let client = c.args.message.now.client.items in
+    let tables = c.args.tables.now in
+    let given = ap (question_given client) c.taken-taken.ensures ∙ asked in
+    let pdu = c.pdu_of-pdu.ensures.asked client q given in
+    let viewer = c.viewer_of-viewer.ensures client q given in
+    subst (λ (octets : List ℕ). All (λ (v : Variable). set_in tables q v.name) (variables_of octets)) pdu.list
+    (may_all tables q c.viewer_of-viewer.result c.pdu_of-pdu.result.tag (variables_of c.pdu_of-pdu.result.list.now) c.deref.result.now viewer (pdu.tag ∙ set)
+    (subst (λ (answers : List Access). AllZip (IsAnswerFor c.viewer_of-viewer.result Write) (variables_of c.pdu_of-pdu.result.list.now) answers) (sym c.deref.ensures.value) c.in_ok-answers.ensures)
+    c.in-None.ensures)
