@@ -43,7 +43,7 @@ fn port_of(word: &str) -> Option<u16>
 /// Why the words ask for no ports.
 #[derive(Clone, Copy, Debug, PartialEq, Eq, Drop, Error)]
 pub enum PortsFault<'a> {
-    /// This word is the first that is no port.
+    /// This word is the first that isn't a port.
     #[error("a word is no port")]
     NoPort(&'a str),
     /// A growth of memory was refused.
@@ -142,7 +142,7 @@ fn tell_passed<N: Write>(alloc: Global, passed: &Tally, notes: &mut N) -> Result
     }
 }
 
-/// Writes the line for a file that is no capture from this octet on.
+/// Writes the line for a file that isn't a capture from this octet on.
 fn refuse<L: Write>(alloc: Global, name: &str, place: u64, log: &mut L) -> Result<(), Unread>
     ensures ok { OnOk result (Appends (L.contents log.old) (L.contents log.new)
         (refused_line name.now place)) }
@@ -169,7 +169,7 @@ pub(crate) fn passed_line(alloc: Global, passed: &Tally) -> Result<String, Alloc
     format!(in alloc; "snmpsec: passed over: {words}\n")
 }
 
-/// The text of the line for a file that is no capture from this octet on.
+/// The text of the line for a file that isn't a capture from this octet on.
 fn refused_line(alloc: Global, name: &str, place: u64) -> Result<String, AllocError>
     ensures { IfOk result (λ text. string_bytes text ≡ refused_line name.now place) }
 {

@@ -10,7 +10,7 @@ use capture_dumps::{DumpFault, read_dumps};
 use capture_files::Printer;
 use std::alloc::{AllocError, Global};
 
-/// The line on which a text is no dump. One without a dump is none from its first on.
+/// The line on which a text isn't a dump. One without a dump is none from its first on.
 fn fault_line(fault: DumpFault) -> u64
     ensures { result ≡ fault_line fault }
 {
@@ -22,7 +22,7 @@ fn fault_line(fault: DumpFault) -> u64
     }
 }
 
-/// The line of a file that is no dump, or no log, on this line.
+/// The line of a file that isn't a dump, or a log, on this line.
 pub(crate) fn refused_row(alloc: Global, name: &str, line: u64) -> Result<String, AllocError>
     ensures { IfOk result (λ text. string_bytes text ≡ refused_row name.now line) }
 {

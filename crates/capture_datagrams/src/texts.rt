@@ -27,7 +27,7 @@ pub(crate) struct Told {
     pub(crate) status: u8,
 }
 
-/// The line of a file that is no text of hex from this place on.
+/// The line of a file that isn't a text of hex from this place on.
 fn refused_place(alloc: Global, name: &str, line: u64, column: u64) -> Result<String, AllocError>
     ensures { IfOk result (λ text. string_bytes text ≡ refused_place name.now line column) }
 {
@@ -144,7 +144,7 @@ pub(crate) fn write_told<L: Write, N: Write>(
 /// or 1 if one of them is refused; or else a line for the first line at which it isn't one, and status 1. Of
 /// dumps of packets the same of the datagrams in them, and `notes` gets what is reported of a capture's records
 /// beside. Where it is read as hex, the same of its octets as the one datagram, or else a line for the first
-/// place at which it is no hex.
+/// place at which it isn't hex.
 ///
 /// The errors are CannotRead, where a read fails or there are over 16,777,216 octets; CannotWrite; and OutOfMemory.
 pub(crate) fn write_text<P: Printer, R: Read, L: Write, N: Write>(

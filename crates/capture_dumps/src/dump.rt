@@ -41,7 +41,7 @@ fn zeros(text: &[u8]) -> usize
     text.len()
 }
 
-/// How many octets `0x` or `0X` has at the beginning of the text: 2, or 0 where neither stands there.
+/// How many octets `0x` or `0X` has at the beginning of the text: 2, or 0 if neither is there.
 pub fn prefix_size(text: &[u8]) -> usize
     ensures within { result ≤ length text.now }
     ensures is { result ≡ prefix_size text.now }

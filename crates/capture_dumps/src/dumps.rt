@@ -20,7 +20,7 @@ pub enum DumpFault {
     /// shows other octets than those before it.
     #[error("line {0}: no octets")]
     Unreadable(u64),
-    /// This line goes on a dump, and none stands before it.
+    /// This line continues a dump, and none comes before it.
     #[error("line {0}: no dump before")]
     NotBegun(u64),
     /// This line has more octets or fewer than the offset of the next says.

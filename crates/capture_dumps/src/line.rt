@@ -23,9 +23,9 @@ pub(crate) enum Line<'a> {
     Begin { octets: Vec<u8> },
     /// A line with the offset that these digits write and these octets, or without octets.
     More { digits: &'a [u8], octets: Vec<u8> },
-    /// Behind the offset stands no pair, but something else.
+    /// Something else than a pair comes after the offset.
     Words,
-    /// Behind the offset stand pairs, and can't be read.
+    /// Pairs come after the offset, and can't be read.
     Bad,
 }
 
@@ -72,7 +72,7 @@ fn has_pairs(offset: &Offset<'_>) -> bool
     are_pairs(first_word(offset.rest))
 }
 
-/// Behind a colon pairs may be joined; else the first stands apart.
+/// Behind a colon pairs may be joined; else the first is by itself.
 fn is_apart(offset: &Offset<'_>) -> bool
     ensures { result ≡ spec.is_apart (told offset.now) }
 {

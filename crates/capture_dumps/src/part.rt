@@ -5,7 +5,7 @@ ghost use Rattle.hex.specs.Hex.{hex_digit_value};
 ghost use Rattle.capture_dumps.specs.Text.{is_between};
 ghost use Rattle.capture_dumps.specs.Part.{first_part, gap_size, pair_value, prefix_size};
 
-/// What stands at the beginning of a text.
+/// What is at the beginning of a text.
 #[derive(Clone, Copy, Debug, PartialEq, Eq)]
 pub(crate) enum Part {
     /// So many octets between pairs.
@@ -58,7 +58,7 @@ fn gap_size(text: &[u8]) -> usize
     0
 }
 
-/// How many octets `0x`, `0X` or `\x` has at the beginning of the text: 2, or 0 where none of them stands there.
+/// How many octets `0x`, `0X` or `\x` has at the beginning of the text: 2, or 0 if none of them is there.
 fn prefix_size(text: &[u8]) -> usize
     ensures { result ≡ prefix_size text.now }
 {
@@ -94,7 +94,7 @@ fn pair_value(text: &[u8], place: usize) -> Option<u8>
     Some(high * 16 + low)
 }
 
-/// What the text begins with, or `None` where that is no part of a text of hex.
+/// What the text begins with, or `None` where that isn't part of a text of hex.
 pub(crate) fn first_part(text: &[u8]) -> Option<Part>
     ensures { result ≡ first_part text.now }
 {

@@ -11,7 +11,7 @@ use thiserror::Error;
 /// Why a text wasn't read.
 #[derive(Clone, Copy, Debug, PartialEq, Eq, Drop, Error)]
 pub enum HexFault {
-    /// What begins in this column of this line, each from 1, is no part of a text of hex, or the text ends
+    /// What begins in this column of this line, each from 1, isn't part of a text of hex, or the text ends
     /// there without an octet.
     #[error("line {line} column {column}")]
     At { line: u64, column: u64 },

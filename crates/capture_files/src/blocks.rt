@@ -174,7 +174,7 @@ pub(crate) fn finish_block<R: Read>(
     }
 }
 
-/// Reads the next block of a section. Its packet stands in the room.
+/// Reads the next block of a section. Its packet is in the room.
 pub(crate) fn read_block<R: Read>(
     reader: &mut R,
     section: &mut Section,

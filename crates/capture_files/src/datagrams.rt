@@ -291,13 +291,13 @@ fn write_items<P: Printer, R: Read, L: Write, N: Write>(
 /// Writes the datagrams of a capture in the format of libpcap or in pcapng as a log, a line `MOMENT HEX` for
 /// each, and counts or tells what isn't in the log: `notes` gets a line `snmpsec: record N: REASON` for each
 /// piece of a datagram, each that was cut short when it was captured, each of a length that can't be, each
-/// that is empty and each record without a moment; what else is no datagram from or to one of these ports is
+/// that is empty and each record without a moment; what else isn't a datagram from or to one of these ports is
 /// counted. MOMENT is in whole seconds, and N counts from 1.
 ///
 /// It holds one record at a time, of at most 262,144 octets, and of a section of pcapng what is said of its
 /// interfaces. A reader that doesn't read ahead is given in a `BufReader`, and writers in a `BufWriter`.
 ///
-/// The errors are Octet(n), where what begins at octet n is no header, record or block, or n is 2^62 or more;
+/// The errors are Octet(n), where what begins at octet n isn't a header, record or block, or n is 2^62 or more;
 /// CannotRead and CannotWrite, where a read or a write fails, or is interrupted 1,000 times in a row; and
 /// OutOfMemory. Before each of them but CannotWrite all is written that the records before come to.
 pub fn write_datagrams<R: Read, L: Write, N: Write>(

@@ -1,4 +1,4 @@
-//! A capture in either format: its beginning, and what stands next.
+//! A capture in either format: its beginning, and what comes next.
 
 ghost use Rattle.std.specs.Prelude.{◌≡◌, ◌<◌, ◌≤◌, ◌++◌, true, ℕ, List, Option, drop, length, IfOk, IfErr};
 ghost use Rattle.std.specs.Io.KnownBytes.{Consumes, IsAtEnd};
@@ -115,7 +115,7 @@ pub(crate) fn begin<R: Read>(
     }
 }
 
-/// Reads the next record as an item. Its packet stands in the room.
+/// Reads the next record as an item. Its packet is in the room.
 fn read_record_item<R: Read>(
     reader: &mut R,
     header: Header,
@@ -135,7 +135,7 @@ fn read_record_item<R: Read>(
     }
 }
 
-/// Reads the next item. Its packet stands in the room.
+/// Reads the next item. Its packet is in the room.
 pub(crate) fn read_item<R: Read>(
     reader: &mut R,
     format: &mut Format,

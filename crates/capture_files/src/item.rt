@@ -1,4 +1,4 @@
-//! What stands next in a capture.
+//! What comes next in a capture.
 
 /// What is known of a packet that was captured.
 #[derive(Clone, Copy)]
@@ -26,7 +26,7 @@ pub(crate) struct Item {
     pub(crate) packet: Option<Head>,
 }
 
-/// What stands next in a capture.
+/// What comes next in a capture.
 #[derive(Clone, Copy)]
 pub(crate) enum Next {
     /// An item.

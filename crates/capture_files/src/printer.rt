@@ -1,4 +1,4 @@
-//! What stands for a datagram in what is written.
+//! How a datagram is represented in what is written.
 
 ghost use Rattle.std.specs.Prelude.{Bool, ℕ, List, IfOk};
 ghost use Rattle.capture_files.specs.Datagrams.{PrintsAs, PrintsLine};

@@ -1,4 +1,4 @@
-//! Exchanges: a request and what became of it, or a datagram that stands alone.
+//! Exchanges: a request and what became of it, or a datagram by itself.
 
 ghost use Rattle.std.specs.Prelude.{◌≡◌};
 ghost use Rattle.diagnose_exchanges.specs.Exchanges.{asks, waits};

@@ -1,4 +1,4 @@
-//! What each datagram of a capture is, and what its receiver makes of it, judged by whoever reads the traffic of
+//! What each datagram of a capture is, and what its receiver makes of it, judged by someone who reads the traffic of
 //! engines: which of the two engines is authoritative (RFC 3414, section 1.5.1), and by whose time window.
 //!
 //! ```

@@ -112,7 +112,7 @@ impl Follower {
         self.ask_anew(line.number, Asked::by_request(line.route, id), first)
     }
 
-    /// A request with this number that is no copy.
+    /// A request with this number that isn't a copy.
     fn ask_anew(&mut self, number: u64, asked: Asked, first: First) -> Result<(), AllocError>
         ensures follows { OnOk result
             (Follows (λ step. step ≡ begins number first (is_counted first) (Waits asked)) self.old self.new) }

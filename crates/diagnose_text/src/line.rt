@@ -106,7 +106,7 @@ impl Line {
         tag != PduType::SNMPv2Trap.tag() && self.copy_of.is_none()
     }
 
-    /// What is known of a datagram that is no message.
+    /// What is known of a datagram that isn't a message.
     pub(crate) fn unreadable(self, refusal: Refusal) -> First
         ensures captured { IsCaptured self result }
         ensures what { result.what ≡ Unreadable }

@@ -215,7 +215,7 @@ fn fails<K: Drop>(exchange: &Exchange<K, First, Answer>) -> bool
     }
 }
 
-/// This configuration refuses the datagram, and it is no copy.
+/// This configuration refuses the datagram, and it isn't a copy.
 fn is_refused(first: &First) -> bool
     ensures { result ≡ spec.is_refused first.now }
 {

@@ -46,7 +46,7 @@ fn says_kind(says: &Says) -> &'static str
     }
 }
 
-/// The word for people that stands beside a number: the name of an error-status, or what a refusal mostly comes from.
+/// The word for people beside a number: the name of an error-status, or what a refusal mostly comes from.
 pub(crate) fn says_word(says: &Says) -> &'static str {
     match says {
         Says::Error(status, _) => status_name(*status),

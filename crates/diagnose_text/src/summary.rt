@@ -1,4 +1,4 @@
-//! What stands at the end: how the exchanges of each user ended, and what is known of each engine.
+//! What is printed at the end: how the exchanges of each user ended, and what is known of each engine.
 
 ghost use Rattle.std.specs.Prelude.{◌≡◌, ◌++◌, ℕ, List, IfOk, IfSome, OnOk, map, string_bytes};
 ghost use Rattle.std.specs.List.{All, AllZip};

@@ -26,7 +26,7 @@ pub enum ForwardEvent {
     ToReceiver,
     /// A notification isn't sent to a receiver, for this reason.
     Unsent(Refusal),
-    /// A receiver's datagram is no answer to what is waited for.
+    /// A receiver's datagram isn't an answer to what is waited for.
     NoAnswer,
     /// A receiver's datagram is an answer to what was sent last for an Inform, which goes on.
     Heard,

@@ -303,7 +303,7 @@ impl GateHandle {
     }
 
     /// Returns the number of the request that the last call was about, that of the device, and how many requests
-    /// wait. Behind these stands what the last call told, and 0 for what it didn't: of a Response that goes to a
+    /// wait. After these comes what the last call reported, and 0 for what it didn't: of a Response that goes to a
     /// client error-status and error-index; 1 for a Report that goes to one; and of a device's answer why its bindings
     /// don't answer what it was asked, the number of the first such binding, counted from 1, and how many of its
     /// bindings the request's message may not see; and of a client's message that waits the tag of its PDU.

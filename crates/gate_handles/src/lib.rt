@@ -17,7 +17,7 @@
 //!     told.is_ok() && written == 12 && out.starts_with(b"10.1.0.7:161")
 //! }
 //!
-//! /// Whether the device has its address, whether what is no message is taken, and what is due then, twice.
+//! /// Whether the device has its address, whether what isn't a message is taken, and what is due then, twice.
 //! type Told = (bool, bool, i32, GateEvent);
 //!
 //! fn told_by(gate: &mut GateHandle) -> Result<Told, Fail> {

@@ -7,6 +7,6 @@ use vacm_core::Access;
 pub enum Decision {
     /// The answer for each variable, in the bindings' order.
     ByName(Vec<Access>),
-    /// The PDU is no GetRequest and no SetRequest.
+    /// The PDU is neither a GetRequest nor a SetRequest.
     NotByName,
 }

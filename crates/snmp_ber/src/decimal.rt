@@ -3,7 +3,7 @@
 ghost use Rattle.std.specs.Prelude.{◌≡◌, ◌≢◌, ℕ, ◌<◌, ◌^◌, ◌⊎◌, length, decimal, slice_index, IfSome, Some, MatchBool};
 ghost use Rattle.snmp_ber.specs.Decimal.{IsDecimal};
 
-/// The number whose decimal this is, where it is at most `most`, or None where the text is no such number's.
+/// The number whose decimal this is, where it is at most `most`, or None where the text isn't such a number's.
 ///
 /// A decimal has digits alone, at least one, and no zero leads but in `0` itself.
 pub fn read_decimal(text: &[u8], most: u64) -> Option<u64>

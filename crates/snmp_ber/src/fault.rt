@@ -2,7 +2,7 @@
 
 use thiserror::Error;
 
-/// No element stands at this place (X.690, section 8.1; RFC 3417, section 8).
+/// There is no element at this place (X.690, section 8.1; RFC 3417, section 8).
 #[derive(Clone, Copy, Debug, PartialEq, Eq, Drop, Error)]
 #[error("no element at octet {at}")]
 pub struct BerFault {

@@ -29,7 +29,7 @@ impl<'a> Model for ObjectName<'a> {
 }
 
 impl<'a> ObjectName<'a> {
-    /// The identifier with this content, or None where it is no identifier's: `read_oid` tells which are.
+    /// The identifier with this content, or None where it isn't an identifier's: `read_oid` tells which are.
     pub fn of(content: &'a [u8]) -> Option<ObjectName<'a>>
         ensures identifier { MatchOption result
             ((arcs : List ℕ) → IsIdentifier arcs content.now → ⊥)

@@ -93,7 +93,7 @@ pub unsafe extern "C" fn proved_agent_respond_front(
 
 /// Why no application of the agent answers the message that is kept: 0 where it is to be answered; 1 where it
 /// is a Response or a Report, which no request waits for; 7 where its contextEngineID isn't the agent's or
-/// its PDU is no GetRequest, GetNextRequest, SetRequest or GetBulkRequest (RFC 3412, section 4.2.2); 9 where
+/// its PDU isn't a GetRequest, GetNextRequest, SetRequest or GetBulkRequest (RFC 3412, section 4.2.2); 9 where
 /// there is no context of its name (RFC 3413, section 3.2). It answers -2 where no message is kept.
 #[unsafe(no_mangle)]
 pub unsafe extern "C" fn proved_agent_unhandled(at: *mut u8) -> i32

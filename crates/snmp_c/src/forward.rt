@@ -60,7 +60,7 @@ pub unsafe extern "C" fn proved_forward_clear(at: *mut u8) -> i32
 }
 
 /// Takes a datagram from the device of this number, counted from 0. It answers 26 where it is a notification that
-/// waits to be sent. It answers 20 where it is no message of SNMPv2c, 21 where that has no SNMPv2-Trap, and 22 where
+/// waits to be sent. It answers 20 where it isn't a message of SNMPv2c, 21 where that has no SNMPv2-Trap, and 22 where
 /// that has no snmpTrapOID.0; 23 where there is no such device, or it has another community; 24 where none of the
 /// receivers may be notified of it, and 25 where as many wait as may. Or 14, if memory runs out: the datagram isn't
 /// taken, and may be taken again.

@@ -137,7 +137,7 @@ pub unsafe extern "C" fn proved_gate_take_client(
 }
 
 /// Takes a datagram from the device of this number, counted from 0, at the moment `now`, in milliseconds. It answers
-/// 24 where it is an answer, 25 where nothing waits for it, and 26 where it is no Response of SNMPv2c; or 14, if
+/// 24 where it is an answer, 25 where nothing waits for it, and 26 where it isn't a Response of SNMPv2c; or 14, if
 /// memory runs out: the datagram isn't taken, and may be taken again.
 #[unsafe(no_mangle)]
 pub unsafe extern "C" fn proved_gate_take_device(

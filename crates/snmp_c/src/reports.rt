@@ -35,7 +35,7 @@ pub unsafe extern "C" fn proved_manager_take_answer(at: *mut u8) -> i32
 /// Writes what the message that is kept tells, where it is a Report on the request that is waited for: the
 /// number of its counter (1 to 6 usmStats, 7 snmpUnknownPDUHandlers, 8 snmpUnavailableContexts, 9
 /// snmpUnknownContexts, or 0), the counter's value or -1 where it has none, and 1 where it came with
-/// authentication, or 0. It answers 1 where it is no such Report, -2 where no message is kept or no request
+/// authentication, or 0. It answers 1 where it isn't such a Report, -2 where no message is kept or no request
 /// is waited for, and -5 where there is no room for three.
 #[unsafe(no_mangle)]
 pub unsafe extern "C" fn proved_manager_report(at: *mut u8, out: &mut [i64]) -> i32

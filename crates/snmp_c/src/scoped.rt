@@ -7,7 +7,7 @@ use std::alloc::Global;
 
 /// Writes a ScopedPDU of these contexts, a PDU of this tag and these numbers of 32 bits with sign, and the bindings
 /// that these octets are, to the front of the buffer, and tells how many octets it has. It answers -1 where the tag
-/// is no PDU's, -4 where the octets aren't bindings, 16 where it would have more than 65,507 octets, 14 if memory
+/// isn't a PDU's, -4 where the octets aren't bindings, 16 where it would have more than 65,507 octets, 14 if memory
 /// runs out, and -5 where the buffer is too short.
 #[unsafe(no_mangle)]
 pub extern "C" fn proved_scoped_write(

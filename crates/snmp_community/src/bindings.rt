@@ -1,4 +1,4 @@
-//! Messages whose PDU is spelled where it stands, from its numbers and its bindings.
+//! Messages whose PDU is spelled in its place, from its numbers and its bindings.
 
 ghost use Rattle.std.specs.Prelude.{◌≡◌, ℕ, List, ◌+◌, ◌*◌, ◌<◌, ◌≤◌, All, length, map, IfErr, IfOk};
 ghost use Rattle.snmp_message.specs.Refusals.{IsRefused, IsWriteRefusal};
@@ -16,7 +16,7 @@ use snmp_message::{LARGEST, Refusal, RefusedAt, element_len};
 use snmp_msg::{Spelled, bindings_len, put_pdu_of, written_pdu_len};
 use std::alloc::{AllocError, Global};
 
-/// What stands in a message in front of the bindings of its PDU.
+/// What comes in a message before the bindings of its PDU.
 #[derive(Clone, Copy, PartialEq, Eq)]
 pub struct CommunityFront<'a> {
     pub version: Version,
@@ -76,7 +76,7 @@ fn spell_bindings<B: Spelled>(
     Ok(out)
 }
 
-/// The message with this front and these bindings, in the shortest spelling. The PDU is spelled where it stands, and
+/// The message with this front and these bindings, in the shortest spelling. The PDU is spelled in its place, and
 /// memory is asked for once. The tag is of one of the eight types, and the bindings can be written.
 ///
 /// The error TooLarge (16) comes exactly where the text would be longer than 65,507 octets, and OutOfMemory only

@@ -13,7 +13,7 @@ pub enum Version {
 }
 
 impl Version {
-    /// The number of the version, as it stands in a message: 0 of version-1, 1 of SNMPv2c.
+    /// The number of the version, as a message has it: 0 of version-1, 1 of SNMPv2c.
     pub fn number(self) -> i32
         ensures { result ≡ pos (version_number self) }
     {

@@ -2,7 +2,7 @@
 //! gives opened messages, refusals, reports, sealed datagrams and access answers (RFC 3412, RFC 3414, RFC
 //! 3415).
 //!
-//! Each item stands in a crate below, under the same name.
+//! Each item is in a crate below, under the same name.
 //!
 //! ```
 //! use engine_clock::{Clocks, EngineId};

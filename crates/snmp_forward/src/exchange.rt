@@ -41,7 +41,7 @@ pub enum InformTurn {
     GiveUp,
 }
 
-/// Where one Inform stands: what its receiver was sent, and how often. Moments are milliseconds from one beginning.
+/// How far one Inform has come: what its receiver was sent, and how often. Moments are milliseconds from one beginning.
 #[derive(Clone, Copy, Debug, PartialEq, Eq)]
 pub struct InformExchange {
     /// What is asked of the receiver's engine.

@@ -24,7 +24,7 @@ ghost use Rattle.snmp_forward.specs.declared.sealing.Sealing.{Sealing};
 /// that is lawful (`history`). So a receiver is sent an Inform as what it is, sealed for its user at its level, and for
 /// its own engine with the boots and the time that are held of that engine; and what it is sent is heard of by an
 /// accepted message that answers the very message that was sent last. At most as many Informs wait as may (`few`). A
-/// call that found no memory is no part of the history.
+/// call that found no memory isn't part of the history.
 ///
 /// The events are calls of `add`, `take` and `next` with their answers, the latest first.
 pub fn informs_are_sent_to_their_receivers()

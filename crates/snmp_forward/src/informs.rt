@@ -30,7 +30,7 @@ use std::alloc::{AllocError, Global};
 pub enum ReceiverTaken {
     /// It is refused, for the reason that `Manager::take` tells.
     Refused(Refusal),
-    /// It is no answer to what is waited for.
+    /// It isn't an answer to what is waited for.
     NoAnswer,
     /// It is an answer to what was sent last for the Inform with this number, which goes on.
     Heard(u64),

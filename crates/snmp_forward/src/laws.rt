@@ -30,7 +30,7 @@ pub fn one_notification()
 /// Whatever devices send to a new forwarder: what goes out of it has a history that is lawful. So a receiver is sent a
 /// notification only if a device sent it, with its own community, and each of its variables is one of which the
 /// receiver may be notified in that device's context; and it is sent these very variables, sealed for its user at its
-/// level (`history`). At most as many notifications wait as may (`few`). A call that found no memory is no part of the
+/// level (`history`). At most as many notifications wait as may (`few`). A call that found no memory isn't part of the
 /// history.
 ///
 /// The events are calls of `take_trap` and `next` with their answers, the latest first.

@@ -30,7 +30,7 @@ pub struct DeviceNotification<'a> {
 pub enum NotNotification {
     /// It isn't a message of SNMPv2c with a PDU.
     Unreadable,
-    /// Its PDU is no SNMPv2-Trap.
+    /// Its PDU isn't an SNMPv2-Trap.
     NotTrap,
     /// Its second binding isn't snmpTrapOID.0, with an OBJECT IDENTIFIER. Nobody can tell which notification it is.
     NoTrapOid,
@@ -54,7 +54,7 @@ fn read_message(datagram: &[u8]) -> Option<(&[u8], Pdu<'_>)>
     Some((message.community, pdu))
 }
 
-/// Returns the value of a binding of snmpTrapOID.0. None: it is another binding, or its value is no OBJECT IDENTIFIER.
+/// Returns the value of a binding of snmpTrapOID.0. None: it is another binding, or not an OBJECT IDENTIFIER.
 fn trap_oid_in<'a>(binding: &VariableBinding<'a>) -> Option<ObjectName<'a>>
     ensures { MatchOption result ((oid : List ℕ) → ¬ IsTrapOid (bound_variable binding.now) oid)
         (IsTrapOid (bound_variable binding.now)) }

@@ -16,7 +16,7 @@ ghost use Rattle.snmp_forward.specs.declared.originator.Originator.{Originator};
 /// user, or because it was sent as often as it may be. Each Inform that began is one that a notification became, so
 /// that `informs_are_mediated` applies to all that goes out for it.
 ///
-/// At most as many notifications and as many Informs wait as may (`few`). A call that found no memory is no part of the
+/// At most as many notifications and as many Informs wait as may (`few`). A call that found no memory isn't part of the
 /// histories.
 ///
 /// The events are calls of `take_trap`, `take_receiver` and `next` with their answers, the latest first.

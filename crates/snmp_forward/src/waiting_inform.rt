@@ -20,7 +20,7 @@ pub struct WaitingInform {
     /// How many Informs waited before it.
     pub number: u64,
     pub inform: Inform,
-    /// Where it stands.
+    /// How far it has come.
     pub exchange: InformExchange,
     /// The receiver's engine, as soon as it is known.
     pub engine: Option<EngineId>,

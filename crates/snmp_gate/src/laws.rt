@@ -111,7 +111,7 @@ pub fn a_request_is_one_question<M: Drop, W: Drop, Q: Drop>()
 
 /// Whatever clients and devices send to a new gateway, and as long as its moments don't go back: what it sends has a
 /// history that is lawful. So nothing reaches a device but what an accepted message asks, and its sender may see, or
-/// set; nothing comes back that he may not see; and a Set goes out once. A call that found no memory is no part of the
+/// set; nothing comes back that he may not see; and a Set goes out once. A call that found no memory isn't part of the
 /// history.
 ///
 /// The events are calls of `take_client`, `take_device` and `next` with their answers, the latest first.

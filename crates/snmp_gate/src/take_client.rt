@@ -80,7 +80,7 @@ fn asks_set(work: &Work) -> bool
 /// What is remembered of a Set before its device is asked.
 #[derive(Clone, Copy, PartialEq, Eq)]
 enum Noted {
-    /// It is no Set, or its device isn't asked.
+    /// It isn't a Set, or its device isn't asked.
     NoSet,
     /// It is remembered now, and its device may be asked.
     Now,

@@ -30,7 +30,7 @@ pub enum Due {
     GiveUp,
 }
 
-/// Where a request stands in time. Moments are milliseconds from one beginning.
+/// How far a request has come in time. Moments are milliseconds from one beginning.
 #[derive(Clone, Copy, Debug, PartialEq, Eq)]
 pub struct Timer {
     /// The moment at which the request came.

@@ -25,7 +25,7 @@ pub enum CallFault {
     BadBindings,
     /// The buffer is too short.
     ShortBuffer,
-    /// The text is no configuration.
+    /// The text isn't a configuration.
     BadConfiguration,
     /// The text saves no clocks.
     BadClocks,

@@ -48,7 +48,7 @@ fn scoped_text(alloc: Global, of: &ScopedOf<'_>, list: &[u8]) -> Result<Vec<u8>,
 /// Writes a ScopedPDU with the bindings that these octets are, in its shortest spelling, to the front of the buffer,
 /// and tells how many octets it has.
 ///
-/// The errors are BadArgument, where the tag is no PDU's; BadBindings; TooLarge (16), where it has more than 65,507
+/// The errors are BadArgument, where the tag isn't a PDU's; BadBindings; TooLarge (16), where it has more than 65,507
 /// octets; out of memory; and ShortBuffer. They leave the buffer as it was, and ShortBuffer alone tells how many
 /// octets are wanted.
 pub fn write_scoped_pdu(

@@ -1,4 +1,4 @@
-//! Where a PDU stands in the octets that begin with its ScopedPDU.
+//! Where a PDU is in the octets that begin with its ScopedPDU.
 
 ghost use Rattle.std.specs.Prelude.{◌≡◌, ◌≤◌, length, Some};
 ghost use Rattle.snmp_message.specs.Scoped.{Contexts, ScopedFront};
@@ -7,7 +7,7 @@ ghost use Rattle.snmp_incoming.specs.Texts.{pdu_read, pdu_placed};
 
 use snmp_msg::Pdu;
 
-/// The numbers of a PDU (RFC 3416, section 3), and where its list stands in the octets that begin with its
+/// The numbers of a PDU (RFC 3416, section 3), and where its list is in the octets that begin with its
 /// ScopedPDU. Once it was read, no octet of it is read again.
 #[derive(Clone, Copy, Debug)]
 pub(crate) struct PduPlace {

@@ -62,7 +62,7 @@ fn place(fault: RefusedAt, base: usize) -> usize {
 /// What is given on of the message that `open_auth` gave, whose octets `scoped_octets` gave.
 ///
 /// The error is BadScoped (12), exactly where the octets don't begin with a ScopedPDU, or BadPdu (13),
-/// exactly where its data is no PDU. It takes no memory.
+/// exactly where its data isn't a PDU. It takes no memory.
 pub fn read_text<'a>(checked: &Checked<'a>, text: Octets<'a>) -> Result<Taken<'a>, RefusedAt>
     ensures { IsSomeAnd (answer_of result)
         (ReadsText (verified_of checked.now) (text_of text.entry)) }

@@ -48,7 +48,7 @@ impl Header {
     }
 }
 
-/// The header in the content of msgGlobalData, which stands in the bytes between two places.
+/// The header in the content of msgGlobalData, which is in the bytes between two places.
 #[tactic(auto, unfolding(crate::specs::Reading::header_of))]
 pub fn read_header(bytes: &[u8], at: usize, end: usize) -> Result<Header, BerFault>
     requires start { at ≤ end }

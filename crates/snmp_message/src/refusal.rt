@@ -10,13 +10,13 @@ use std::fmt;
 /// places that some of them have.
 #[derive(Clone, Copy, Debug, PartialEq, Eq, Drop)]
 pub enum Refusal {
-    /// The datagram is no SNMPv3Message (RFC 3412, section 6).
+    /// The datagram isn't an SNMPv3Message (RFC 3412, section 6).
     NotMessage,
     /// msgVersion isn't 3.
     BadVersion,
     /// msgSecurityParameters are no UsmSecurityParameters (RFC 3414, section 2.4).
     NotSecurity,
-    /// msgData is no ScopedPDU (RFC 3412, section 6.8), or not what the priv flag says.
+    /// msgData isn't a ScopedPDU (RFC 3412, section 6.8), or not what the priv flag says.
     NotScoped,
     /// The octets are no PDU (RFC 3416, section 3).
     NotPdu,

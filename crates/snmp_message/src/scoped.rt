@@ -70,7 +70,7 @@ impl ScopedPlace {
     }
 }
 
-/// The places of the ScopedPDU whose content stands between two places.
+/// The places of the ScopedPDU whose content is between two places.
 #[tactic(auto, unfolding(crate::specs::Scoped::contexts_in))]
 fn place_contexts(octets: &[u8], at: usize, end: usize) -> Result<ScopedPlace, BerFault>
     requires start { at ≤ end }
@@ -95,7 +95,7 @@ fn place_contexts(octets: &[u8], at: usize, end: usize) -> Result<ScopedPlace, B
     })
 }
 
-/// The ScopedPDU whose content stands between two places.
+/// The ScopedPDU whose content is between two places.
 fn read_contexts(octets: &[u8], at: usize, end: usize) -> Result<Scoped<'_>, BerFault>
     requires start { at ≤ end }
     requires within { end ≤ length octets.now }

@@ -1,4 +1,4 @@
-//! What a message carries, written where it stands.
+//! What a message carries, written in its place.
 
 ghost use Rattle.std.specs.Prelude.{◌≡◌, ◌++◌, List, ℕ, length, OnOk};
 ghost use Rattle.snmp_ber.specs.Element.{IsElement};

@@ -118,11 +118,11 @@ pub fn read_security<'a>(
 /// A datagram in the three pieces that the message authentication code is computed from (RFC 3414, section 6.3.2).
 #[derive(Clone, Copy, Debug, PartialEq, Eq)]
 pub struct Cut<'a> {
-    /// What stands before the content of msgAuthenticationParameters.
+    /// What comes before the content of msgAuthenticationParameters.
     pub front: &'a [u8],
     /// The content of msgAuthenticationParameters.
     pub field: &'a [u8],
-    /// What stands after it.
+    /// What comes after it.
     pub back: &'a [u8],
 }
 

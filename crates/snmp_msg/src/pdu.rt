@@ -61,7 +61,7 @@ impl<'a> Pdu<'a> {
     }
 }
 
-/// The content of a PDU with this tag, which stands between two places.
+/// The content of a PDU with this tag, which is between two places.
 #[tactic(auto, unfolding(crate::specs::Pdu::pdu_content_in))]
 fn read_pdu_content(bytes: &[u8], tag: u8, at: usize, end: usize) -> Result<Pdu<'_>, BerFault>
     requires start { at ≤ end }

@@ -12,7 +12,7 @@ pub enum PduType {
     SetRequest = 0xA3,
     GetBulkRequest = 0xA5,
     InformRequest = 0xA6,
-    /// SNMPv2-Trap. The Trap of SNMPv1, A4, is no PDU of SNMPv3.
+    /// SNMPv2-Trap. The Trap of SNMPv1, A4, isn't a PDU of SNMPv3.
     SNMPv2Trap = 0xA7,
     Report = 0xA8,
 }

@@ -20,7 +20,7 @@ use snmp_responder::{Viewer, end_of_mib_view, no_such_object};
 /// What is asked of a device for a binding.
 #[derive(Drop)]
 pub struct Ask {
-    /// The name at which the column stands.
+    /// The name that the column is at.
     pub from: Oid,
     /// The name that is asked.
     pub name: Oid,

@@ -1,4 +1,4 @@
-//! Rows as tables of TOML. Before each stands a comment with its place.
+//! Rows as tables of TOML. A comment with its place comes before each.
 
 ghost use Rattle.std.specs.Prelude.{◌≡◌, ◌++◌, OnOk};
 ghost use Rattle.std.specs.List.{slice_get};

@@ -1,4 +1,4 @@
-//! Access rows as they are printed: `none` is no view where no view has that name.
+//! Access rows as they are printed: `none` isn't a view where no view has that name.
 
 ghost use Rattle.std.specs.Prelude.{IfOk};
 ghost use Rattle.snmpd_import.specs.Rows.{TellsNone, IsPrintedView, IsPrinted, ArePrintedRows, ArePrinted};

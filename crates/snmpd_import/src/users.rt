@@ -144,7 +144,7 @@ pub(crate) fn created_in(made: &Made) -> Option<&Created>
     }
 }
 
-/// Where the last line stands that makes a user of each name.
+/// Where the last line is that makes a user of each name.
 pub(crate) fn last_users(
     alloc: Global,
     items: &[Item],
@@ -170,7 +170,7 @@ fn last_place(items: &[Item], last: &BTreeMap<Vec<u8>, usize>, name: &Vec<u8>) -
     last.get(name).copied()
 }
 
-/// The place of the last line that makes a user of this name, where it is behind the line that stands here.
+/// The place of the last line that makes a user of this name, where it is after the line that is here.
 pub(crate) fn user_behind(
     items: &[Item],
     last: &BTreeMap<Vec<u8>, usize>,

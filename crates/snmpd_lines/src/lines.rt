@@ -13,7 +13,7 @@ use std::alloc::{AllocError, Global};
 /// The most octets of a directive that snmpd has room for.
 const DIRECTIVE_MAX: usize = 1023;
 
-/// A section of a file. Only what stands in `[snmpd]` is the agent's.
+/// A section of a file. Only what is in `[snmpd]` is the agent's.
 #[derive(Clone, Copy, Debug, PartialEq, Eq)]
 pub enum Section {
     Snmpd,
@@ -25,7 +25,7 @@ pub enum Section {
 pub enum Line<'a> {
     /// Blanks and a comment.
     Nothing,
-    /// A section begins: its name stands alone in brackets.
+    /// A section begins: its name is alone in brackets.
     Begins(Section),
     /// A bracket is opened and not closed.
     Unclosed,

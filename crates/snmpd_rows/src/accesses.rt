@@ -116,7 +116,7 @@ fn take_views(text: &[u8]) -> Option<ViewTokens<'_>>
     })
 }
 
-/// The name of a view, or `None` where snmpd has no room for it. One of 33 octets is no name that a view can
+/// The name of a view, or `None` where snmpd has no room for it. One of 33 octets isn't a name that a view can
 /// have: it is left empty.
 pub(crate) fn view_name(token: &[u8]) -> Option<Name>
     ensures found { IfSome result (λ name. IsViewName token.now name) }

@@ -58,7 +58,7 @@ fn take_model_and_view(text: &[u8]) -> Result<(u32, &[u8], &[u8]), LineFault>
     }
 }
 
-/// The group and the view, and the model that stands between them, or else any.
+/// The group and the view, and the model that is between them, or else any.
 fn take_group_and_view(text: &[u8]) -> Result<GroupView<'_>, LineFault>
     ensures found { IfOk result
         (λ r. HasGroupAndView text.now r.group.now r.model r.view.now r.rest.now) }

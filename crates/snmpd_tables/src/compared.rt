@@ -210,7 +210,7 @@ fn has_prefix(rows: &Chosen<'_>, asking: &Asking<'_>, prefix: &Name) -> bool
     !places_at(&asking.prefixes.held, prefix).is_empty()
 }
 
-/// Asks for the context at this place, where it is no prefix of the group's rows.
+/// Asks for the context at this place, where it isn't a prefix of the group's rows.
 fn put_next_context(
     found: &mut Vec<Difference>,
     compared: &Compared<'_>,

@@ -1,4 +1,4 @@
-//! Items in which behind each simple line stand those of the lines that it stands for.
+//! Items in which each simple line is followed by those of the lines that it stands for.
 
 ghost use Rattle.std.specs.Prelude.{◌≡◌, IfOk, OnOk, map};
 ghost use Rattle.std.specs.Option.{option_map};
@@ -100,7 +100,7 @@ impl Meaning {
     }
 }
 
-/// The items, in which behind each simple line stand those of the lines that it stands for. They are numbered
+/// The items, in which each simple line is followed by those of the lines that it stands for. They are numbered
 /// in their order.
 ///
 /// The error is out of memory, also for the number of a line above 18,446,744,073,709,551,615.

@@ -1,4 +1,4 @@
-//! Where the first row of each index stands.
+//! Where the first row of each index is.
 
 ghost use Rattle.std.specs.Prelude.{◌++◌, ◌∷◌, [], IfOk, OnOk, MatchOption};
 ghost use Rattle.snmpd_tables.specs.EffectiveRows.{IsNew, IsFirstLike};
@@ -8,7 +8,7 @@ use crate::rows::Held;
 use std::alloc::{AllocError, Global};
 use std::collections::BTreeMap;
 
-/// The place of the first row that has the index of this one, given where the first of each stands.
+/// The place of the first row that has the index of this one, given where the first of each is.
 pub fn find<H: Held>(rows: &[H], places: &BTreeMap<H, usize>, row: &H) -> Option<usize>
     requires { Finds H.cmp rows.now places.now }
     ensures { MatchOption result (IsNew H.cmp rows.now row.now)
@@ -32,7 +32,7 @@ pub(crate) fn note_place<H: Held>(
     Ok(())
 }
 
-/// Where the first row of each index stands.
+/// Where the first row of each index is.
 ///
 /// The error is out of memory.
 pub fn first_places<H: Held>(alloc: Global, rows: &[H]) -> Result<BTreeMap<H, usize>, AllocError>

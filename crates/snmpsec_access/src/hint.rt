@@ -6,14 +6,14 @@ ghost use Rattle.snmpsec_access.specs.Lines.{table_of, odd_words};
 use snmpsec_config::ConfigTable;
 use vacm_core::ViewType;
 
-/// What is no fault in a row of a configuration and is probably a mistake.
+/// What isn't a fault in a row of a configuration and is probably a mistake.
 #[derive(Clone, Copy, Debug, PartialEq, Eq)]
 pub enum Oddity {
     /// A user whom no group row of the user-based security model names.
     UserWithoutGroup,
     /// A group row whose group no access row has.
     GroupWithoutAccess,
-    /// A group row of the user-based security model whose name is no user's.
+    /// A group row of the user-based security model whose name isn't a user's.
     NameWithoutUser,
     /// An access row whose group no group row has.
     GroupWithoutName,
@@ -40,7 +40,7 @@ impl Oddity {
         }
     }
 
-    /// What is odd, in words, behind which the name stands.
+    /// What is odd, in words, after which the name comes.
     pub fn words(self) -> &'static str
         ensures { result.now ≡ odd_words self }
     {

@@ -25,7 +25,7 @@ fn line_words(alloc: Global, line: Option<usize>) -> Result<String, AllocError>
     }
 }
 
-/// What stands in the line of a hint before the name.
+/// What is in the line of a hint before the name.
 fn front(alloc: Global, hint: &Hint<'_>, line: Option<usize>) -> Result<String, AllocError>
     ensures { IfOk result (λ text. string_bytes text ≡ front line (told hint.now)) }
 {

@@ -226,7 +226,7 @@ fn put_families<'a>(hints: &mut Vec<Hint<'a>>, known: &Known<'a>) -> Result<(), 
     Ok(())
 }
 
-/// What is no fault in the rows and is probably a mistake: the tables in their order, the rows of each from 0, and of
+/// What isn't a fault in the rows and is probably a mistake: the tables in their order, the rows of each from 0, and of
 /// one row in the order of `Oddity`. Each name is looked up once. The error is out of memory.
 pub fn hints<'a>(alloc: Global, rows: &'a ConfigRows) -> Result<Vec<Hint<'a>>, AllocError>
     ensures { IfOk result (λ made. all_told made.items

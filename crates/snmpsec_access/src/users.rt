@@ -23,7 +23,7 @@ fn supports(row: &UserRow, level: Level) -> bool
     }
 }
 
-/// Where the first row of each name stands.
+/// Where the first row of each name is.
 ///
 /// The error is out of memory.
 pub(crate) fn first_places<'a>(

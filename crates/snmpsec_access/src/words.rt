@@ -34,7 +34,7 @@ pub fn access_word(access: Access) -> &'static str
     }
 }
 
-/// A word may have the octet as it is: it is no blank, quote, backslash or control character.
+/// A word may have the octet as it is: it isn't a blank, quote, backslash or control character.
 fn is_plain(octet: u8) -> bool
     ensures { result ≡ is_plain octet }
 {

@@ -57,7 +57,7 @@ pub(crate) struct Form {
 /// How many commands there are.
 const FORMS: usize = 16;
 
-/// The command at this place of the list that help prints, from 0. At each place after the last stands the last.
+/// The command at this place of the list that help prints, from 0. Each place after the last has the last.
 fn form_at(at: usize) -> &'static Form
     ensures { result.now.name.now ≡ command_word result.now.command }
 {

@@ -157,7 +157,7 @@ fn number(row: &Table, key: ConfigKey) -> Option<u32>
     Some(model)
 }
 
-/// The security level whose name stands at a key.
+/// The security level whose name is at a key.
 pub(crate) fn level(row: &Table, key: ConfigKey) -> Result<Level, ValueFault>
     ensures ok { IfOk result (IsLevel (at (table_view row.now) key)) }
     ensures fault { IfErr result
@@ -189,7 +189,7 @@ pub(crate) fn matching(row: &Table, key: ConfigKey) -> Result<Matching, ValueFau
     }
 }
 
-/// The identifier whose dotted text stands at a key.
+/// The identifier whose dotted text is at a key.
 pub(crate) fn oid(row: &Table, key: ConfigKey) -> Result<Oid, ValueFault>
     ensures ok { IfOk result (λ oid. IsOid (at (table_view row.now) key) oid) }
     ensures fault { IfErr result
@@ -253,7 +253,7 @@ pub(crate) fn mask(row: &Table, key: ConfigKey) -> Result<Mask, ValueFault>
     }
 }
 
-/// The protocol whose name stands at a key.
+/// The protocol whose name is at a key.
 fn protocol(row: &Table, key: ConfigKey) -> Result<Auth, ValueFault>
     ensures ok { IfOk result (λ auth. IsText (at (table_view row.now) key) (auth_word auth)) }
     ensures fault { IfErr result
@@ -269,7 +269,7 @@ fn protocol(row: &Table, key: ConfigKey) -> Result<Auth, ValueFault>
     }
 }
 
-/// Whether the key stands in the row.
+/// Whether the key is in the row.
 fn has(row: &Table, key: ConfigKey) -> bool
     ensures { result ≡ is_some (at (table_view row.now) key) }
 {

@@ -11,7 +11,7 @@ use std::fmt;
 #[derive(Clone, Copy, Debug, PartialEq, Eq, Drop)]
 pub enum DigitsFault {
     Empty,
-    /// The number of the first character that is no hex digit, from 1, and the character.
+    /// The number of the first character that isn't a hex digit, from 1, and the character.
     NoDigit { at: usize, found: char },
     /// All are digits, and this many.
     Odd { count: usize },
@@ -33,7 +33,7 @@ pub fn digits_fault(word: &str) -> Option<DigitsFault>
     }
 }
 
-/// What is wrong with octets that have to be one or more pairs of hex digits. An octet that is no digit is the
+/// What is wrong with octets that have to be one or more pairs of hex digits. An octet that isn't a digit is the
 /// character of its number (ISO 8859-1).
 pub fn octet_digits_fault(octets: &[u8]) -> Option<DigitsFault>
     ensures exact { MatchOption result (ArePairs octets.now) (TellsDigits octets.now) }
@@ -53,7 +53,7 @@ pub fn octet_digits_fault(octets: &[u8]) -> Option<DigitsFault>
     None
 }
 
-/// How many octets stand before the first that is no hex digit.
+/// How many octets come before the first that isn't a hex digit.
 fn digits_in_front(octets: &[u8]) -> usize
     ensures within { result ≤ length octets.now }
     ensures before { (k : ℕ) → k < result → is_ascii_hexdigit (slice_index octets.now k) ≡ true }

@@ -6,7 +6,7 @@ use snmpsec_io::Excerpt;
 use std::alloc::{AllocError, Global};
 use std::fmt;
 
-/// The heading if a moment stands on each line.
+/// The heading if a moment is on each line.
 const WITH_SEEN: &str = "snmp-clocks 2";
 
 /// The heading if none does.
@@ -18,7 +18,7 @@ const GREATEST: u64 = MAX_INTEGER32 as u64;
 /// Why a line of saved clocks is out of its form.
 #[derive(Clone, Copy)]
 enum ClocksFault<'a> {
-    /// The first line is no heading.
+    /// The first line isn't a heading.
     Heading,
     CarriageReturn,
     /// There are more words or fewer, or not one blank between two; and whether a moment is one of them.

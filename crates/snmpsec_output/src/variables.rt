@@ -18,9 +18,9 @@ pub enum VariableFault<'a> {
     Empty,
     /// There is a dot before the first number; and what follows it.
     DotInFront { rest: &'a str },
-    /// There is nothing where this number stands.
+    /// There is nothing where this number would be.
     Missing { at: usize },
-    /// What stands there has something else than digits.
+    /// What is there has something else than digits.
     NoNumber { at: usize, word: &'a str },
     /// The number there is above 4294967295, or has a 0 in front.
     OutOfRange { at: usize, word: &'a str },

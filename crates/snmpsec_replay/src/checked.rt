@@ -27,7 +27,7 @@ pub(crate) enum CheckedLine {
     Sound,
     /// Nothing.
     End,
-    /// What is no line, and why.
+    /// What isn't a line, and why.
     Faulty(LogLineFault),
 }
 
@@ -35,7 +35,7 @@ pub(crate) enum CheckedLine {
 /// the first that is out of its form or past the limits, and why. One line is held at a time.
 ///
 /// The errors are CannotRead, where a read fails or is interrupted 1,000 times in a row, before which nothing
-/// stood that is no line, and OutOfMemory.
+/// stood that isn't a line, and OutOfMemory.
 pub fn check_log<R: BufRead>(alloc: Global, reader: &mut R) -> Result<CheckedLog, ReplayFault>
     ensures ok { IfOk result (TellsLog (R.remaining reader.old) (R.remaining reader.new)) }
     ensures err { IfErr result (StopsLog (R.remaining reader.old) (R.remaining reader.new)) }

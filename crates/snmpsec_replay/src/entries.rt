@@ -18,7 +18,7 @@ pub enum NextEntry {
     Entry(LoggedDatagram),
     /// Nothing.
     End,
-    /// What is no line of a log, and why.
+    /// What isn't a line of a log, and why.
     Faulty(LogLineFault),
 }
 

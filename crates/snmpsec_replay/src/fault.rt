@@ -7,7 +7,7 @@ use thiserror::Error;
 #[derive(Clone, Copy, Debug, PartialEq, Eq, Drop, Error)]
 pub enum ReplayFault {
     /// The line of this number is the first out of its form, or past the limits. Lines are numbered from 1,
-    /// or from the number that was asked for. Beside it stands what is wrong with it.
+    /// or from the number that was asked for. What is wrong with it is given beside it.
     #[error("log line {0}")]
     LogLine(u64, LogLineFault),
     /// A read failed.

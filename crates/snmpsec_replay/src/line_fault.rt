@@ -1,4 +1,4 @@
-//! Why a line is no line of a log, in words for whoever wrote it.
+//! Why a line isn't a line of a log, in words for its author.
 
 use crate::log::{LINE_LIMIT, LINES_LIMIT};
 use snmp_ber::{read_decimal, split_once};
@@ -12,11 +12,11 @@ pub enum LogLineFault {
     TooManyLines,
     /// The line has over 131,072 octets.
     TooLong,
-    /// A carriage return stands before the line feed.
+    /// A carriage return comes before the line feed.
     CarriageReturn,
     /// It isn't two words with one blank between.
     Words,
-    /// The first word is no moment.
+    /// The first word isn't a moment.
     Moment(Excerpt),
     /// The second word isn't pairs of hex digits.
     Digits(Excerpt, DigitsFault),

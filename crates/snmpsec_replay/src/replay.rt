@@ -38,7 +38,7 @@ pub(crate) enum Ending {
 pub(crate) enum Step {
     /// Its datagram was taken.
     Answered,
-    /// It is no line of a log, and why.
+    /// It isn't a line of a log, and why.
     OutOfForm(LogLineFault),
     /// A growth of memory was refused.
     OutOfMemory,

@@ -184,7 +184,7 @@ fn in_octets(alloc: Global, pdu: &Pdu<'_>) -> Result<Vec<u8>, RefusedAt>
     write_pdu_of(alloc, pdu.tag, pdu.id, pdu.second, pdu.third, &bindings)
 }
 
-/// Whether the text that was written is this one, or what stands in the way of writing it.
+/// Whether the text that was written is this one, or what is in the way of writing it.
 fn is_text(text: Result<Vec<u8>, RefusedAt>, wanted: &[u8]) -> Result<bool, RefusedAt> {
     match text {
         Ok(text) => Ok(text.as_slice() == wanted),

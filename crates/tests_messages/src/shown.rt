@@ -18,7 +18,7 @@ impl fmt::Display for Hex<'_> {
     }
 }
 
-/// A text as it stands in rows: `'` and then `_` for a space and `|` for a line feed.
+/// A text as rows have it: `'` and then `_` for a space and `|` for a line feed.
 #[derive(Clone, Copy)]
 pub struct Text<'a>(pub &'a [u8]);
 

@@ -230,7 +230,7 @@ fn event_in(row: &mut Row<'_>, messages: &[Vec<u8>]) -> Option<Event> {
     event
 }
 
-/// A manager takes a datagram: one of the messages, or what is no message.
+/// A manager takes a datagram: one of the messages, or what isn't a message.
 fn taking(
     row: &mut Row<'_>,
     kind: &str,

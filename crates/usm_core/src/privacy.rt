@@ -103,7 +103,7 @@ fn user_schedule(users: &UserTable, cache: &mut KeyCache, name: &[u8], engine: &
     made_schedule(users, cache, key, name, engine)
 }
 
-/// Enciphers the ScopedPDU where it stands, at the end of the text.
+/// Enciphers the ScopedPDU in its place, at the end of the text.
 pub(crate) fn seal_end<S: ScopedPdu>(
     schedule: &Schedule,
     outgoing: &Outgoing<'_, S>,

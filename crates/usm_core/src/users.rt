@@ -271,7 +271,7 @@ impl Users {
         self.seal_of(header, engine, pair, user, salt, &ScopedOctets::of(scoped))
     }
 
-    /// The same, of a ScopedPDU that is written where it stands in the message. The memory of the text is
+    /// The same, of a ScopedPDU that is written in its place in the message. The memory of the text is
     /// asked for once, and no octet of it is copied from another text.
     ///
     /// The errors are those of `seal`, in its order.

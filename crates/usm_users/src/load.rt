@@ -19,7 +19,7 @@ use usm_keys::{Auth, Key, MIN_PASSWORD, password_key};
 const MAX_NAME: usize = 32;
 
 /// A user: a name of 1 to 32 octets, and passwords of at least 8. A user with a privacy password has one for
-/// authentication too, and both keys are made with the hash that stands beside that.
+/// authentication too, and both keys are made with the hash that is given beside that.
 #[derive(Drop)]
 pub struct UserRow {
     pub name: Vec<u8>,
@@ -132,7 +132,7 @@ fn user_of(row: &UserRow) -> User
     User { name, credentials }
 }
 
-/// Where each name of the rows stands, or what is wrong with the first row at fault.
+/// Where each name of the rows is, or what is wrong with the first row at fault.
 pub fn places_of(alloc: Global, rows: &[UserRow]) -> Result<HashMap<UserName, usize>, UserFault>
     ensures sound { OnOk result (AreSound rows.now) }
     ensures places { IfOk result (λ places. IsIndex (map spec.user_of rows.now) places.entries) }
@@ -155,7 +155,7 @@ pub fn places_of(alloc: Global, rows: &[UserRow]) -> Result<HashMap<UserName, us
     Ok(places)
 }
 
-/// Whether a name stands somewhere.
+/// Whether a name is somewhere.
 fn is_known(places: &HashMap<UserName, usize>, name: &[u8]) -> bool
     ensures { (rows : List ARow) → IsIndex (map spec.user_of rows) places.now.entries
         → result ≡ list_any (has_name name.now) rows }

@@ -1,4 +1,4 @@
-//! Users in their order, and where each name stands.
+//! Users in their order, and where each name is.
 
 ghost use Rattle.std.specs.Prelude.{◌≡◌, IfOk};
 ghost use Rattle.std.specs.Option.{option_copied};

@@ -16,7 +16,7 @@ fn place<R: NamedRow>(a: &R, b: &R) -> Ordering
     first.cmp(second).then(b.ranking(a))
 }
 
-/// The row stands before those of the name, or is one.
+/// The row comes before those of the name, or is one.
 fn is_upto<R: NamedRow>(row: &R, wanted: &[u8]) -> bool
     ensures { result ≡ nat_lt (side_of R.name_of wanted.now row.now) 2 }
 {

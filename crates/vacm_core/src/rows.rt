@@ -46,7 +46,7 @@ pub struct AccessRow {
     /// The least level that a message needs.
     pub level: Level,
     pub matching: Matching,
-    /// The names of the views; an empty name is no view.
+    /// The names of the views; an empty name isn't a view.
     pub read: Name,
     pub write: Name,
     pub notify: Name,

@@ -1,4 +1,4 @@
-//! `snmpsec_output`: what `snmpsec show` prints of a word that is no message.
+//! `snmpsec_output`: what `snmpsec show` prints of a word that isn't a message.
 use snmpsec_output::show_text;
 use std::test::Fail;
 

@@ -25,7 +25,7 @@ fn agent(alloc: Global) -> Result<Agent, Fail> {
     Ok(Agent::new(alloc, engine, 1, 0, users, vacm))
 }
 
-/// Whether an agent takes what is no message, and how many engines it has refused.
+/// Whether an agent takes what isn't a message, and how many engines it has refused.
 fn took(alloc: Global) -> Result<(bool, Option<u32>), Fail> {
     let mut agent = agent(alloc)?;
     let is_taken = agent.take(1000, b"no message").is_ok();
