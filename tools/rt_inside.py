@@ -12,16 +12,25 @@ import tempfile
 
 sys.dont_write_bytecode = True
 
+PROOF = 4_500_000_000  # octets of memory that a proof takes, at most
 MARK = "unproved_build"  # the symbol that each executable has which tools/unproved makes
 
 
-def load_rt():
-    """rt's own code: it reads crates.txt, knows the words of a check, and what may run side by side."""
+def load_kit():
+    """rt's own code as a module. It counts on the memory that proofs take: its own figure is up to three times as much, and leaves processors idle."""
     path = os.path.realpath(shutil.which("rt") or sys.exit("there is no command rt: the Rattle kit isn't on the path"))
     sys.path.insert(0, os.path.dirname(path))
     loader = importlib.machinery.SourceFileLoader("rt_main", path)
     rt = importlib.util.module_from_spec(importlib.util.spec_from_loader("rt_main", loader))
     loader.exec_module(rt)
+    expected = rt.need
+    rt.need = lambda crate: min(PROOF, expected(crate))
+    return rt
+
+
+def load_rt():
+    """rt's own code, for a tool: it reads crates.txt, knows the words of a check, and what may run side by side."""
+    rt = load_kit()
     # as rt ci has them: the links that they make are held to the handles that are allowed
     rt.rtlib.Crate = rt.Crate
     rt.Crate.allowed = rt.handles_of(os.getcwd())

@@ -2,7 +2,7 @@
 --
 -- `Tells`: the complaint is this line, with the words that explain it. `TellsLine`: it is this line.
 -- `IsComplaint`: what is printed for a complaint.
-use Rattle.std.specs.Prelude.{◌≡◌, ⊤, ℕ, List, [], ◌++◌, codes, Option, String, string_bytes}
+use Rattle.std.specs.Prelude.{◌≡◌, ⊤, ℕ, List, [], ◌++◌, codes, Option, string_bytes}
 use Rattle.std.specs.Prelude.{option_map}
 use Rattle.snmpsec_output.specs.declared.output.Output.{Output}
 use Rattle.snmpsec_commands.specs.declared.complaint.Complaint.{Complaint}

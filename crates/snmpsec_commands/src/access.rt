@@ -9,6 +9,7 @@ use snmpsec_output::{
     Output, check_config_hinted, check_config_text, check_text, explain_text, group_why, model_of,
     open_named, sees_text, who_text,
 };
+use std::alloc::{AllocError, Global};
 use std::io::Input;
 use std::rt::Files;
 
@@ -32,16 +33,29 @@ pub(crate) fn answer_on_access<R: Files + Input + AllocGlobal>(
     is_explained: bool,
     why: bool,
 ) -> Result<Output, Complaint> {
-    let question = question_of(words);
     let config = octets_of(rt, words.config)?;
+    let output = answer_by(rt.alloc(), &config, words, is_explained, why);
+    drop(config);
+    Ok(output?)
+}
+
+/// The answer to a question by a configuration.
+fn answer_by(
+    alloc: Global,
+    config: &[u8],
+    words: &AccessWords<'_>,
+    is_explained: bool,
+    why: bool,
+) -> Result<Output, AllocError> {
+    let question = question_of(words);
     let mut output = if is_explained {
-        explain_text(rt.alloc(), &config, &question)?
+        explain_text(alloc, config, &question)?
     } else {
-        check_text(rt.alloc(), &config, &question)?
+        check_text(alloc, config, &question)?
     };
     if why && output.out.starts_with(b"noGroupName\n") {
         let model = model_of(words.model).unwrap_or(0);
-        output.why = group_why(rt.alloc(), &config, model, words.name)?;
+        output.why = group_why(alloc, config, model, words.name)?;
     }
     Ok(output)
 }
@@ -59,7 +73,9 @@ pub(crate) fn who_sees<R: Files + Input + AllocGlobal>(
         Extent::Variable
     };
     let config = octets_of(rt, word_of(words, "CONFIG"))?;
-    Ok(who_text(rt.alloc(), &config, variable, view, only_users, extent)?)
+    let output = who_text(rt.alloc(), &config, variable, view, only_users, extent);
+    drop(config);
+    Ok(output?)
 }
 
 /// What the name sees.
@@ -90,13 +106,25 @@ pub(crate) fn check_config<R: Files + Input + AllocGlobal>(
     is_hinted: bool,
 ) -> Result<Output, Complaint> {
     let config = octets_of(rt, name)?;
+    let output = check_octets(rt.alloc(), name, &config, is_hinted);
+    drop(config);
+    Ok(output?)
+}
+
+/// How many rows a configuration has or what is wrong with it, as `check_config` says.
+fn check_octets(
+    alloc: Global,
+    name: &str,
+    config: &[u8],
+    is_hinted: bool,
+) -> Result<Output, AllocError> {
     let mut output = if is_hinted {
-        check_config_hinted(rt.alloc(), &config)?
+        check_config_hinted(alloc, config)?
     } else {
-        check_config_text(rt.alloc(), &config)?
+        check_config_text(alloc, config)?
     };
-    if output.status == 1 && looks_like_snmpd(&config) {
-        let line = format!(in rt.alloc();
+    if output.status == 1 && looks_like_snmpd(config) {
+        let line = format!(in alloc;
             "snmpsec: {name} looks like an snmpd.conf; import-snmpd makes a configuration of one\n"
         )?;
         output.err.extend_from_slice(line.as_bytes())?;

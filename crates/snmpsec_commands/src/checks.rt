@@ -4,10 +4,11 @@
 use crate::complaint::Complaint;
 use crate::files::{fault_of, log_of, octets_of};
 use engine_clock::Clocks;
+use snmpsec_io::Watched;
 use snmpsec_output::{Output, refused_clocks};
 use snmpsec_replay::{CheckedLog, LogLineFault, ReplayFault, check_log};
 use std::alloc::{AllocError, Global};
-use std::io::Input;
+use std::io::{BufReader, Input, Read};
 use std::rt::Files;
 
 /// A line `clocks FILE engine N` for each file, with the number of its engines. The first that isn't read or
@@ -20,12 +21,30 @@ pub(crate) fn check_clocks_files<R: Files + Input + AllocGlobal>(
     let mut lines = Vec::new(alloc);
     for name in names {
         let octets = octets_of(rt, name)?;
-        if let Err(fault) = Clocks::read_saved(alloc, &octets, 0) {
-            return Ok(refused_clocks(alloc, name, fault, &octets)?);
+        let refused = count_engines(alloc, &mut lines, name, &octets);
+        drop(octets);
+        if let Some(refusal) = refused? {
+            return Ok(refusal);
         }
-        push_count(alloc, &mut lines, name, &octets)?;
     }
     Ok(Output::out(alloc, lines, 0))
+}
+
+/// Appends the line of a file that is saved clocks, or returns why it isn't.
+fn count_engines(
+    alloc: Global,
+    lines: &mut Vec<u8>,
+    name: &str,
+    octets: &[u8],
+) -> Result<Option<Output>, AllocError> {
+    match Clocks::read_saved(alloc, octets, 0) {
+        Ok(clocks) => {
+            drop(clocks);
+            push_count(alloc, lines, name, octets)?;
+            Ok(None)
+        }
+        Err(fault) => Ok(Some(refused_clocks(alloc, name, fault, octets)?)),
+    }
 }
 
 /// Appends the line of a file that is saved clocks.
@@ -46,16 +65,27 @@ pub(crate) fn check_log_file<R: Files + Input + AllocGlobal>(
     rt: &R,
     name: &str,
 ) -> Result<Output, Complaint> {
-    let alloc = rt.alloc();
     let mut reader = log_of(rt, name)?;
-    match check_log(alloc, &mut reader) {
+    let output = check_lines(rt.alloc(), name, &mut reader);
+    drop(reader);
+    output
+}
+
+/// A line `line N` with the number of the lines that are read, or the first that is at fault, and what is wrong
+/// with it.
+fn check_lines<R: Read + Drop>(
+    alloc: Global,
+    name: &str,
+    reader: &mut BufReader<Watched<R>>,
+) -> Result<Output, Complaint> {
+    match check_log(alloc, reader) {
         Ok(CheckedLog::Whole(count)) => {
             let line = format!(in alloc; "line {count}\n")?;
             Ok(Output::out(alloc, line.into_bytes(), 0))
         }
         Ok(CheckedLog::Faulty { number, why }) => Ok(refused_log(alloc, name, number, why)?),
         Err(ReplayFault::OutOfMemory) => Err(Complaint::OutOfMemory),
-        Err(_) => Err(Complaint::unread(alloc, name, fault_of(&reader))),
+        Err(_) => Err(Complaint::unread(alloc, name, fault_of(reader))),
     }
 }
 

@@ -11,7 +11,7 @@ use capture_datagrams::one_way::OneWay;
 use capture_datagrams::printout::{Opens, Printout, Shows, ShowsAnyVersion, write_printout};
 use capture_files::{Lines, Printer};
 use snmpsec_cli::DatagramsWords;
-use snmpsec_config::Config;
+use snmpsec_config::{Config, ConfigFault};
 use snmpsec_io::{ReadFault, Watched, read_full, write_whole};
 use snmpsec_output::{Output, refusal_and_why};
 use std::alloc::Global;
@@ -130,13 +130,27 @@ fn print_file<R: Files + Input + AllocGlobal, O: Write, E: Write>(
     out: &mut O,
     err: &mut E,
 ) -> Result<Output, Complaint> {
-    let alloc = rt.alloc();
     let mut reader = log_of(rt, name)?;
+    let printed = print_read(rt.alloc(), printout, wanted, name, &mut reader, out, err);
+    drop(reader);
+    printed
+}
+
+/// Writes what is printed of the datagrams that are read, as much at once as a buffer has room for.
+fn print_read<R: Read + Drop, O: Write, E: Write>(
+    alloc: Global,
+    printout: Printout<'_>,
+    wanted: &Wanted,
+    name: &str,
+    reader: &mut BufReader<Watched<R>>,
+    out: &mut O,
+    err: &mut E,
+) -> Result<Output, Complaint> {
     let Ok(mut buffer) = BufWriter::new(alloc, out) else {
         return Err(Complaint::OutOfMemory);
     };
     let mut log = SourceLog::new(alloc, name, RefusalLine::Kept, &mut buffer);
-    let answer = print_printout(alloc, printout, wanted, name, &mut reader, &mut log, err);
+    let answer = print_printout(alloc, printout, wanted, name, reader, &mut log, err);
     let why = log.why()?;
     if buffer.flush().is_err() {
         return Err(Complaint::line(alloc, "cannot write"));
@@ -146,7 +160,7 @@ fn print_file<R: Files + Input + AllocGlobal, O: Write, E: Write>(
             why,
             ..Output::out(alloc, Vec::new(alloc), status)
         }),
-        Err(fault) => Err(stop(alloc, name, &reader, fault)),
+        Err(fault) => Err(stop(alloc, name, reader, fault)),
     }
 }
 
@@ -201,17 +215,52 @@ fn print_printout<R: Read, O: Write, E: Write>(
             let shows = ShowsAnyVersion { names };
             print_one_way(alloc, source, shows, &mut whole, log, err)
         }
-        Printout::Opened { config, names } => match Config::read(alloc, config) {
-            Ok(config) => {
-                let users = config.users;
-                print_one_way(alloc, source, Opens { names, users }, &mut whole, log, err)
-            }
-            Err(fault) if fault.is_memory() => Err(Unread::OutOfMemory),
-            Err(fault) => match refusal_and_why(alloc, &fault) {
-                Ok(refusal) => write_refusal(&refusal, log, err),
-                Err(_) => Err(Unread::OutOfMemory),
-            },
-        },
+        Printout::Opened { config, names } => {
+            print_opened(alloc, source, names, config, &mut whole, log, err)
+        }
+    }
+}
+
+/// Writes what `open` prints of the datagrams of a file, or why the configuration is refused.
+fn print_opened<R: Read, O: Write, E: Write>(
+    alloc: Global,
+    source: Source<'_>,
+    names: bool,
+    config: &[u8],
+    reader: &mut R,
+    log: &mut O,
+    err: &mut E,
+) -> Result<u8, Unread> {
+    match Config::read(alloc, config) {
+        Ok(config) => {
+            let users = config.users;
+            print_one_way(alloc, source, Opens { names, users }, reader, log, err)
+        }
+        Err(fault) => {
+            let refused = refuse_config(alloc, &fault, log, err);
+            drop(fault);
+            refused
+        }
+    }
+}
+
+/// Writes why a configuration is refused.
+fn refuse_config<O: Write, E: Write>(
+    alloc: Global,
+    fault: &ConfigFault,
+    log: &mut O,
+    err: &mut E,
+) -> Result<u8, Unread> {
+    if fault.is_memory() {
+        return Err(Unread::OutOfMemory);
+    }
+    match refusal_and_why(alloc, fault) {
+        Ok(refusal) => {
+            let written = write_refusal(&refusal, log, err);
+            drop(refusal);
+            written
+        }
+        Err(_) => Err(Unread::OutOfMemory),
     }
 }
 

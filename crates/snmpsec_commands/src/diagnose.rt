@@ -9,12 +9,13 @@ use diagnose_text::{DiagnoseOptions, Diagnoser, Style};
 use engine_clock::Clocks;
 use snmpsec_access::Explainer;
 use snmpsec_cli::DiagnoseWords;
-use snmpsec_config::{AccessConfig, Config};
-use snmpsec_io::write_whole;
+use snmpsec_config::{AccessConfig, Config, ConfigFault};
+use snmpsec_io::{Watched, write_whole};
 use snmpsec_output::{Output, refused_clocks};
-use std::alloc::Global;
-use std::io::{BufWriter, Input, Write};
+use std::alloc::{AllocError, Global};
+use std::io::{BufReader, BufWriter, Input, Read, Write};
 use std::rt::Files;
+use usm_core::Users;
 
 /// Looks at the words, reads the configuration and the clocks whole and opens the file, before it looks at what they
 /// say; and then writes a block for each exchange.
@@ -24,21 +25,59 @@ pub(crate) fn diagnose_file<R: Files + Input + AllocGlobal, O: Write, E: Write>(
     out: &mut O,
     err: &mut E,
 ) -> Result<Output, Complaint> {
-    let alloc = rt.alloc();
-    let wanted = wanted_of(alloc, &words.source)?;
-    let options = diagnose_options(alloc, words)?;
+    let wanted = wanted_of(rt.alloc(), &words.source)?;
+    let output = diagnose_wanted(rt, words, &wanted, out, err);
+    drop(wanted);
+    output
+}
+
+/// Makes the diagnoser, and writes what it makes of the datagrams; or returns what is printed where the configuration
+/// or the clocks file is refused.
+fn diagnose_wanted<R: Files + Input + AllocGlobal, O: Write, E: Write>(
+    rt: &R,
+    words: &DiagnoseWords<'_>,
+    wanted: &Wanted,
+    out: &mut O,
+    err: &mut E,
+) -> Result<Output, Complaint> {
+    match read_diagnoser(rt, words)? {
+        Ok(mut diagnoser) => {
+            let name = words.source.file;
+            let output = diagnose_named(rt, &mut diagnoser, wanted, name, out, err);
+            drop(diagnoser);
+            output
+        }
+        Err(refused) => Ok(refused),
+    }
+}
+
+/// The diagnoser of the words, whose configuration and clocks file are read.
+fn read_diagnoser<R: Files + Input + AllocGlobal>(
+    rt: &R,
+    words: &DiagnoseWords<'_>,
+) -> Result<Result<Diagnoser, Output>, Complaint> {
+    let options = diagnose_options(rt.alloc(), words)?;
     let config = octets_of(rt, words.config)?;
+    let made = read_clocks(rt, words, &config, options);
+    drop(config);
+    made
+}
+
+/// The diagnoser of the words and this configuration, whose clocks file is read.
+fn read_clocks<R: Files + Input + AllocGlobal>(
+    rt: &R,
+    words: &DiagnoseWords<'_>,
+    config: &[u8],
+    options: DiagnoseOptions,
+) -> Result<Result<Diagnoser, Output>, Complaint> {
+    let alloc = rt.alloc();
     let clocks = match words.clocks {
         Some(name) => octets_of(rt, name)?,
         None => Vec::new(alloc),
     };
-    match diagnoser_of(alloc, &config, words.clocks, &clocks, options)? {
-        Ok(mut diagnoser) => {
-            let name = words.source.file;
-            diagnose_named(rt, &mut diagnoser, &wanted, name, out, err)
-        }
-        Err(refused) => Ok(refused),
-    }
+    let made = diagnoser_of(alloc, config, words.clocks, &clocks, options);
+    drop(clocks);
+    made
 }
 
 /// What the words ask to be printed. The names are looked at first, then the engine IDs, and then the agents.
@@ -71,20 +110,65 @@ fn diagnoser_of(
     saved: &[u8],
     options: DiagnoseOptions,
 ) -> Result<Result<Diagnoser, Output>, Complaint> {
-    let config = match Config::read(alloc, text) {
-        Ok(config) => config,
-        Err(fault) if fault.is_memory() => return Err(Complaint::OutOfMemory),
-        Err(fault) => return Ok(Err(Output::refusal(alloc, &fault)?)),
+    match users_of(alloc, text)? {
+        Ok(users) => {
+            let clocks = clocks_of(alloc, clocks_name, saved);
+            diagnoser_with(alloc, text, users, clocks, options)
+        }
+        Err(refused) => Ok(Err(refused)),
+    }
+}
+
+/// The users of a configuration; or what is printed where it is refused.
+fn users_of(alloc: Global, text: &[u8]) -> Result<Result<Users, Output>, Complaint> {
+    match Config::read(alloc, text) {
+        Ok(config) => Ok(Ok(config.users)),
+        Err(fault) => {
+            let refused = refused_config(alloc, &fault);
+            drop(fault);
+            Ok(Err(refused?))
+        }
+    }
+}
+
+/// What is printed of a configuration that is refused.
+fn refused_config(alloc: Global, fault: &ConfigFault) -> Result<Output, Complaint> {
+    if fault.is_memory() {
+        return Err(Complaint::OutOfMemory);
+    }
+    Ok(Output::refusal(alloc, fault)?)
+}
+
+/// The clocks of the file of this name, none if there is no file; or what is printed where it is refused.
+fn clocks_of(
+    alloc: Global,
+    name: Option<&str>,
+    saved: &[u8],
+) -> Result<Result<Clocks, Output>, AllocError> {
+    let Some(name) = name else {
+        return Ok(Ok(Clocks::new(alloc)));
     };
-    let clocks = match clocks_name {
-        Some(name) => match Clocks::read_saved(alloc, saved, 0) {
-            Ok(clocks) => clocks,
-            Err(fault) => return Ok(Err(refused_clocks(alloc, name, fault, saved)?)),
-        },
-        None => Clocks::new(alloc),
-    };
-    let views = views_of(alloc, text)?;
-    Ok(Ok(Diagnoser::new(alloc, config.users, clocks, views, options)))
+    match Clocks::read_saved(alloc, saved, 0) {
+        Ok(clocks) => Ok(Ok(clocks)),
+        Err(fault) => Ok(Err(refused_clocks(alloc, name, fault, saved)?)),
+    }
+}
+
+/// The diagnoser with these users, and these clocks if they aren't refused.
+fn diagnoser_with(
+    alloc: Global,
+    text: &[u8],
+    users: Users,
+    clocks: Result<Result<Clocks, Output>, AllocError>,
+    options: DiagnoseOptions,
+) -> Result<Result<Diagnoser, Output>, Complaint> {
+    match clocks? {
+        Ok(clocks) => {
+            let views = views_of(alloc, text)?;
+            Ok(Ok(Diagnoser::new(alloc, users, clocks, views, options)))
+        }
+        Err(refused) => Ok(Err(refused)),
+    }
 }
 
 /// The rows of access of a configuration that is read, if it has one.
@@ -105,8 +189,22 @@ fn diagnose_named<R: Files + Input + AllocGlobal, O: Write, E: Write>(
     out: &mut O,
     err: &mut E,
 ) -> Result<Output, Complaint> {
-    let alloc = rt.alloc();
     let mut reader = log_of(rt, name)?;
+    let output = diagnose_read(rt.alloc(), diagnoser, wanted, name, &mut reader, out, err);
+    drop(reader);
+    output
+}
+
+/// Writes what is made of the datagrams that are read, and how all of it ended.
+fn diagnose_read<R: Read + Drop, O: Write, E: Write>(
+    alloc: Global,
+    diagnoser: &mut Diagnoser,
+    wanted: &Wanted,
+    name: &str,
+    reader: &mut BufReader<Watched<R>>,
+    out: &mut O,
+    err: &mut E,
+) -> Result<Output, Complaint> {
     let Ok(mut buffer) = BufWriter::new(alloc, out) else {
         return Err(Complaint::OutOfMemory);
     };
@@ -116,7 +214,7 @@ fn diagnose_named<R: Files + Input + AllocGlobal, O: Write, E: Write>(
         RefusalLine::LeftOut
     };
     let mut log = SourceLog::new(alloc, name, refusal, &mut buffer);
-    let answer = print_source(alloc, wanted, name, diagnoser, &mut reader, &mut log, err);
+    let answer = print_source(alloc, wanted, name, diagnoser, reader, &mut log, err);
     let why = log.why()?;
     let ended = end(alloc, diagnoser, &mut buffer);
     if buffer.flush().is_err() {
@@ -130,7 +228,7 @@ fn diagnose_named<R: Files + Input + AllocGlobal, O: Write, E: Write>(
             why,
             ..Output::out(alloc, Vec::new(alloc), 2)
         }),
-        Err(fault) => Err(stop(alloc, name, &reader, fault)),
+        Err(fault) => Err(stop(alloc, name, reader, fault)),
     }
 }
 
