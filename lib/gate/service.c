@@ -120,7 +120,7 @@ static void take_client(struct gateway *gateway, const struct words *words, cons
     if (event == SNMPSEC_GATE_BEGINS || event == SNMPSEC_GATE_JOINS) note_client(gateway, event, client, len);
     if (event == SNMPSEC_GATE_NO_ROOM && line_has_room(LINE_DROPPED, now)) say_client(client, len, "no room for a message", "");
     if (event == SNMPSEC_GATE_SET_OF_BEFORE && line_has_room(LINE_SET, now))
-        say_client(client, len, "a Set of before", ": it isn't done again");
+        say_client(client, len, "a repeated Set", ": its outcome isn't known, and it isn't done again");
 }
 
 /* Says how a Set ended, of which the device is asked once. */
@@ -208,7 +208,7 @@ static void take_device(struct gateway *gateway, size_t number, size_t len) {
     bool is_unreadable = event == SNMPSEC_GATE_UNREADABLE;
     *(is_unreadable ? &device->counts.unreadable : &device->counts.not_waited_for) += 1;
     if (line_has_room(LINE_DEVICE, now))
-        line("device %s sends %s", device->words, is_unreadable ? "what is no Response of SNMPv2c" : "an answer for which nothing waits");
+        line("device %s sends %s", device->words, is_unreadable ? "a datagram that isn't a Response of SNMPv2c" : "an answer for which nothing waits");
 }
 
 /* A device that is off answers by ICMP: that is an error of its socket, and the device is asked again as if nothing had come. */
@@ -292,7 +292,7 @@ static void note_response(struct gateway *gateway, uint64_t now, const snmpsec_g
     asker_words(request, asker);
     asked_words(request, asked);
     if (request->is_repeated && !request->rounds && line_has_room(LINE_SET, now))
-        line("a Set of before by %s is told again: error-status %" PRIu64 " (%s), index %" PRIu64, asker, info->status,
+        line("a repeated Set by %s has its first answer: error-status %" PRIu64 " (%s), index %" PRIu64, asker, info->status,
              name ? name : "no such one", info->index);
     if (info->status != GEN_ERR || !info->index || !waiting_used_up(request)) return;
     gateway->counts.rounds_used_up++;

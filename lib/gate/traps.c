@@ -36,8 +36,8 @@ static void say_dropped(const struct device *device, size_t len, snmpsec_forward
     char oid[OID_WORDS];
     oid_words(len, oid);
     switch (event) {
-    case SNMPSEC_FORWARD_UNREADABLE: line("device %s sends what is no Trap of SNMPv2c", device->words); break;
-    case SNMPSEC_FORWARD_NOT_TRAP: line("device %s sends a message of SNMPv2c that is no SNMPv2-Trap", device->words); break;
+    case SNMPSEC_FORWARD_UNREADABLE: line("device %s sends a datagram that isn't a message of SNMPv2c", device->words); break;
+    case SNMPSEC_FORWARD_NOT_TRAP: line("device %s sends a message of SNMPv2c that isn't an SNMPv2-Trap", device->words); break;
     case SNMPSEC_FORWARD_NO_TRAP_OID: line("device %s sends a Trap whose second binding isn't snmpTrapOID.0", device->words); break;
     case SNMPSEC_FORWARD_OTHER_COMMUNITY: line("device %s sends a Trap with another community", device->words); break;
     case SNMPSEC_FORWARD_FOR_NOBODY: line("device %s notifies of %s: no receiver may be notified of it", device->words, oid); break;

@@ -430,7 +430,7 @@ typedef struct snmpsec_gate snmpsec_gate;
 typedef enum snmpsec_gate_event {
     /* _next: there is nothing to do now */
     SNMPSEC_GATE_NOTHING = 0,
-    /* _take_client: it begins a request; it asks again what waits; as many wait as may; it is a Set of before whose outcome isn't known */
+    /* _take_client: it begins a request; it asks again what waits; as many wait as may; it is a repeated Set whose outcome isn't known */
     SNMPSEC_GATE_BEGINS = 20, SNMPSEC_GATE_JOINS = 21, SNMPSEC_GATE_NO_ROOM = 22, SNMPSEC_GATE_SET_OF_BEFORE = 23,
     /* _take_device: it is the answer to what was asked; nothing waits for it; it is no Response of SNMPv2c */
     SNMPSEC_GATE_ANSWERS = 24, SNMPSEC_GATE_NOT_WAITED_FOR = 25, SNMPSEC_GATE_UNREADABLE = 26,
@@ -519,7 +519,7 @@ typedef struct snmpsec_forward snmpsec_forward;
 typedef enum snmpsec_forward_event {
     /* _next: there is nothing to do now */
     SNMPSEC_FORWARD_NOTHING = 0,
-    /* _take_trap: it is no message of SNMPv2c; it has no SNMPv2-Trap; its second binding isn't snmpTrapOID.0 */
+    /* _take_trap: it isn't a message of SNMPv2c; it has no SNMPv2-Trap; its second binding isn't snmpTrapOID.0 */
     SNMPSEC_FORWARD_UNREADABLE = 20, SNMPSEC_FORWARD_NOT_TRAP = 21, SNMPSEC_FORWARD_NO_TRAP_OID = 22,
     /* _take_trap: it hasn't the device's community; no receiver may be notified of it; as many wait as may; it waits to be sent */
     SNMPSEC_FORWARD_OTHER_COMMUNITY = 23, SNMPSEC_FORWARD_FOR_NOBODY = 24, SNMPSEC_FORWARD_NO_ROOM = 25, SNMPSEC_FORWARD_WAITS = 26,

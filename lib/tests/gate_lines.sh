@@ -18,7 +18,7 @@ test_lines_of_answers() {
     tells "an error-status that there isn't" "^device pdu answers error-status 77 (no such one), index 1, to getnext $system.1 of $asker\$"
     echo junk > "$own/wrong"
     has "junk before an answer" "value 3" "$(asks get $system.3.0)"
-    tells "has a line" '^device pdu sends what is no Response of SNMPv2c$'
+    tells "has a line" '^device pdu sends a datagram that isn.t a Response of SNMPv2c$'
     echo twice > "$own/wrong"
     has "an answer that comes twice" "value 4" "$(asks get $system.4.0)"
     tells "has a line, too" '^device pdu sends an answer for which nothing waits$'
@@ -70,7 +70,7 @@ test_lines_of_sets() {
     has "a Set" "bob" "$(asks set_variables $system.4.0 s bob $system.5.0 s bobs)"
     tells "has a line with its outcome" "^set $system.4.0 and 1 more by $asker at device pdu: error-status 0 (noError), index 0\$"
     comes_again
-    tells "and one where it comes again" "^a Set of before by $asker is told again: error-status 0 (noError), index 0\$"
+    tells "and one where it comes again" "^a repeated Set by $asker has its first answer: error-status 0 (noError), index 0\$"
     echo status=6 > "$own/wrong"
     has "a Set that the device refuses" "noAccess" "$(asks set_variables $system.4.0 s eve)"
     tells "has its line" "^set $system.4.0 by $asker at device pdu: error-status 6 (noAccess), index 1\$"

@@ -149,9 +149,9 @@ test_traps_dropped() {
     notifies 127.0.0.4 reads 1 $link_down
     in_file "an address of no device" "$traps/err" '^a Trap from 127\.0\.0\.4:[0-9]*: no device has this address$'
     SNMP_PERSISTENT_DIR=$traps/sender snmptrap -v1 -c reads "127.0.0.1:$traps_at" $link_down 127.0.0.1 2 0 1 > /dev/null 2>&1
-    in_file "a Trap of SNMPv1" "$traps/err" '^device pdu sends what is no Trap of SNMPv2c$'
+    in_file "a Trap of SNMPv1" "$traps/err" '^device pdu sends a datagram that isn.t a message of SNMPv2c$'
     SNMP_PERSISTENT_DIR=$traps/sender snmpinform -v2c -r 0 -t 0.1 -c reads "127.0.0.1:$traps_at" 1 $link_down > /dev/null 2>&1
-    in_file "an Inform" "$traps/err" '^device pdu sends a message of SNMPv2c that is no SNMPv2-Trap$'
+    in_file "an Inform" "$traps/err" '^device pdu sends a message of SNMPv2c that isn.t an SNMPv2-Trap$'
     sleep 0.3
     check "nothing of it comes out" "" "$(cat "$traps/got")"
 }

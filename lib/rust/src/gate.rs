@@ -51,7 +51,7 @@ pub enum ClientTaken {
     Joins { request: u64, pdu: u8 },
     /// As many requests wait as may.
     NoRoom,
-    /// It is a Set of before whose outcome isn't known.
+    /// It is a repeated Set whose outcome isn't known.
     SetOfBefore,
 }
 

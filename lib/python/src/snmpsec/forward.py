@@ -24,7 +24,7 @@ __all__ = ["ForwardEvent", "Forwarded", "Forwarder", "InformMessage", "ReceiverT
 class ForwardEvent(IntEnum):
     """What becomes of a datagram, and what goes out."""
 
-    #: A device's is no message of SNMPv2c; has no SNMPv2-Trap; its second binding isn't snmpTrapOID.0; or it hasn't the device's community.
+    #: A device's isn't a message of SNMPv2c; has no SNMPv2-Trap; its second binding isn't snmpTrapOID.0; or it hasn't the device's community.
     UNREADABLE = 20
     NOT_TRAP = 21
     NO_TRAP_OID = 22

@@ -28,7 +28,7 @@ _LINES = 4096  # octets
 class GateEvent(IntEnum):
     """What becomes of a datagram, and what goes out."""
 
-    #: A client's begins a request; asks again what waits; has no room; or is a Set of before whose outcome isn't known.
+    #: A client's begins a request; asks again what waits; has no room; or is a repeated Set whose outcome isn't known.
     BEGINS = 20
     JOINS = 21
     NO_ROOM = 22
