@@ -88,7 +88,7 @@ test_informs_away() {
 }
 
 # Two users at one engine, and the Report that tells the time is lost for one of them. When it is asked for the time again, the other one's Inform has
-# learned it: what would be within the time window then is no notification, and snmptrapd wouldn't answer it.
+# learned it: what would be within the time window then isn't a notification, and snmptrapd wouldn't answer it.
 test_informs_of_two_users() {
     local user
     begin_lines
