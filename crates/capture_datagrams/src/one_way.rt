@@ -37,7 +37,7 @@ impl<P> OneWay<P> {
     /// The next datagram is of another port.
     fn leaves_out(&self) -> bool {
         match (self.from, self.route) {
-            (Some(port), Some(route)) => route.from.port != port,
+            (Some(port), Some(route)) => route.from.port() != port,
             _ => false,
         }
     }

@@ -39,7 +39,7 @@ mod printer;
 mod tally;
 
 pub use datagrams::{print_datagrams_behind, write_datagrams};
-pub use endpoints::{Address, Endpoint, Route, SNMP_PORTS, route_of};
+pub use endpoints::{Route, SNMP_PORTS, route_of};
 pub use fault::CaptureFault;
 pub use field::{Order, read_16_by, read_32, read_64};
 pub use format::begins_capture;

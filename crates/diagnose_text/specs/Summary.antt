@@ -4,13 +4,14 @@
 -- `AreKnown`: what is said of engines is what the clocks hold of them. `IsSummed`: the summary in this style.
 use Rattle.std.specs.Prelude.{◌≡◌, ℕ, List, [], ◌∷◌, ◌++◌, Option, Some, None, codes, decimal}
 use Rattle.std.specs.List.{All, AllZip}
+use Rattle.std.specs.Net.Text.{socket_text}
+use Rattle.std.specs.declared.net.socket_addr.SocketAddr.{SocketAddr}
 use Rattle.hex.specs.Hex.{encode_lower}
 use Rattle.engine_clock.specs.Marks.{Marks, SeenPair, mark_at}
 use Rattle.serde_json.specs.Data.{Data, Members, null, string, array, object, no_members, put}
 use Rattle.serde_json.specs.View.{items_of}
-use Rattle.capture_files.specs.declared.endpoints.Endpoint.{Endpoint}
 use Rattle.diagnose_text.specs.Documents.{IsLine, natural, with_these}
-use Rattle.diagnose_text.specs.Words.{AreTexts, IsEndpointText, IsNameText, clock_text}
+use Rattle.diagnose_text.specs.Words.{AreTexts, IsNameText, clock_text}
 use Rattle.diagnose_text.specs.declared.counts.UserCounts.{UserCounts}
 use Rattle.diagnose_text.specs.declared.options.Style.{Style}
 use Rattle.diagnose_text.specs.declared.options.Style.TheVariants.{Text, Json}
@@ -39,9 +40,9 @@ pub record IsUserLine (counts : UserCounts) (line : List ℕ) : Type 0 where
   pub whole : line ≡ user_line counts name
 
 -- from where the engine answered last, where that is known
-abbrev pub IsAgentText : Option Endpoint → List ℕ → Type 0
+abbrev pub IsAgentText : Option SocketAddr → List ℕ → Type 0
 IsAgentText None text = text ≡ []
-IsAgentText (Some endpoint) text = (shown : List ℕ) × IsEndpointText endpoint shown × (text ≡ codes "; agent " ++ shown)
+IsAgentText (Some endpoint) text = text ≡ codes "; agent " ++ socket_text endpoint
 
 -- the boots and the time that an engine said last, and when it did
 abbrev pub engine_text : EngineFacts → List ℕ
@@ -89,9 +90,9 @@ clock_members facts agent members = with_these (
     (codes "agent", agent) ∷ []) members
 
 -- from where the engine answered last, or null
-abbrev pub IsAgentValue : Option Endpoint → Data → Type 0
+abbrev pub IsAgentValue : Option SocketAddr → Data → Type 0
 IsAgentValue None document = document ≡ null
-IsAgentValue (Some endpoint) document = (shown : List ℕ) × IsEndpointText endpoint shown × (document ≡ string shown)
+IsAgentValue (Some endpoint) document = document ≡ string (socket_text endpoint)
 
 -- the document of an engine, and of where it answered last
 abbrev pub engine_document : EngineFacts → Data → Data

@@ -7,17 +7,19 @@ use Rattle.std.specs.Prelude.{ℕ, List, length, Bool, true, false, ◌&&◌, �
 use Rattle.std.specs.Prelude.{Some, None}
 use Rattle.std.specs.Cmp.Lexicographic.{pointwise}
 use Rattle.std.specs.List.{list_any}
-use Rattle.capture_files.specs.declared.endpoints.Address.{Address}
-use Rattle.capture_files.specs.declared.endpoints.Address.TheVariants.{V4, V6}
-use Rattle.capture_files.specs.declared.endpoints.Endpoint.{Endpoint}
+use Rattle.std.specs.Net.Addr.{ipv4_octets, ipv6_segments}
+use Rattle.std.specs.Net.Socket.{socket_ip, socket_port}
+use Rattle.std.specs.declared.net.ip_addr.IpAddr.{IpAddr}
+use Rattle.std.specs.declared.net.ip_addr.IpAddr.TheVariants.{V4, V6}
+use Rattle.std.specs.declared.net.socket_addr.SocketAddr.{SocketAddr}
 use Rattle.capture_files.specs.declared.endpoints.Route.{Route}
 use Rattle.diagnose_text.specs.declared.options.DiagnoseOptions.{DiagnoseOptions}
 use Rattle.diagnose_text.specs.declared.options.NamedAgent.{NamedAgent}
 
 -- the same address of IP
-abbrev pub is_same_address : Address → Address → Bool
-is_same_address (V4 first) (V4 second) = pointwise nat_eq first second
-is_same_address (V6 first) (V6 second) = pointwise nat_eq first second
+abbrev pub is_same_address : IpAddr → IpAddr → Bool
+is_same_address (V4 first) (V4 second) = pointwise nat_eq (ipv4_octets first) (ipv4_octets second)
+is_same_address (V6 first) (V6 second) = pointwise nat_eq (ipv6_segments first) (ipv6_segments second)
 is_same_address (V4 first) (V6 second) = false
 is_same_address (V6 first) (V4 second) = false
 
@@ -27,11 +29,12 @@ is_port None port = true
 is_port (Some named) port = named == port
 
 -- the agent is there
-abbrev pub is_agent_at : Endpoint → NamedAgent → Bool
-is_agent_at endpoint agent = is_port agent.port endpoint.port && is_same_address agent.address endpoint.address
+abbrev pub is_agent_at : SocketAddr → NamedAgent → Bool
+is_agent_at endpoint agent = is_port agent.port (socket_port endpoint)
+    && is_same_address agent.address (socket_ip endpoint)
 
 -- one of these agents is there
-abbrev pub is_named : List NamedAgent → Endpoint → Bool
+abbrev pub is_named : List NamedAgent → SocketAddr → Bool
 is_named agents endpoint = list_any (is_agent_at endpoint) agents
 
 -- a request goes to an agent and comes from none, and an answer the other way

@@ -4,11 +4,10 @@
 -- `AreWordsOf`: the words of a first datagram.
 use Rattle.std.specs.Prelude.{◌≡◌, ◌⊎◌, ◌/◌, ◌%◌, ℕ, List, [], ◌∷◌, ◌++◌, Option, Some, None, String, codes, decimal}
 use Rattle.std.specs.Prelude.{option_map, string_bytes}
+use Rattle.std.specs.Net.Text.{socket_text}
 use Rattle.std.specs.declared.alloc.Global.{Global}
+use Rattle.std.specs.declared.net.socket_addr.SocketAddr.{SocketAddr}
 use Rattle.hex.specs.Hex.{encode_lower}
-use Rattle.capture_files.specs.declared.endpoints.Address.{Address}
-use Rattle.capture_files.specs.declared.endpoints.Address.TheVariants.{V4, V6}
-use Rattle.capture_files.specs.declared.endpoints.Endpoint.{Endpoint}
 use Rattle.diagnose_text.specs.Names.{sender_user}
 use Rattle.diagnose_text.specs.declared.facts.First.{First}
 use Rattle.diagnose_text.specs.declared.heads.Stamp.{Stamp}
@@ -59,20 +58,12 @@ dotted [] = []
 dotted (octet ∷ []) = decimal octet
 dotted (octet ∷ next ∷ more) = decimal octet ++ (codes "." ++ dotted (next ∷ more))
 
--- an address of IPv6 stands between brackets, in some spelling
-abbrev pub IsAddressText : Address → List ℕ → Type 0
-IsAddressText (V4 octets) text = text ≡ dotted octets
-IsAddressText (V6 octets) text = (spelled : List ℕ) × (text ≡ codes "[" ++ (spelled ++ codes "]"))
-
-abbrev pub IsEndpointText : Endpoint → List ℕ → Type 0
-IsEndpointText endpoint text = (address : List ℕ) × IsAddressText endpoint.address address
-    × (text ≡ address ++ (codes ":" ++ decimal endpoint.port))
-
--- an end of the way, where the way is known
-abbrev pub IsEndText : Option Endpoint → Option (String Global) → Type 0
+-- an end of the way, where the way is known: an address with its port, and between brackets if it is of IPv6 (RFC
+-- 5952, sections 4 to 6)
+abbrev pub IsEndText : Option SocketAddr → Option (String Global) → Type 0
 IsEndText None text = text ≡ None
 IsEndText (Some endpoint) None = ⊥
-IsEndText (Some endpoint) (Some text) = IsEndpointText endpoint (string_bytes text)
+IsEndText (Some endpoint) (Some text) = string_bytes text ≡ socket_text endpoint
 
 -- ---- a first datagram
 

@@ -1,9 +1,9 @@
 //! The engines that sent something, and from where.
 
-use capture_files::Endpoint;
 use engine_clock::EngineId;
 use std::alloc::{AllocError, Global};
 use std::collections::BTreeMap;
+use std::net::SocketAddr;
 
 /// How many engines are followed.
 pub(crate) const ENGINES_LIMIT: usize = 65_536;
@@ -11,7 +11,7 @@ pub(crate) const ENGINES_LIMIT: usize = 65_536;
 /// The engines that sent something, each with the address and port that it answered from last, if that is known.
 #[derive(Drop)]
 pub(crate) struct Agents {
-    endpoints: BTreeMap<EngineId, Option<Endpoint>>,
+    endpoints: BTreeMap<EngineId, Option<SocketAddr>>,
 }
 
 impl Agents {
@@ -31,7 +31,7 @@ impl Agents {
     pub(crate) fn saw(
         &mut self,
         engine: &EngineId,
-        from: Option<Endpoint>,
+        from: Option<SocketAddr>,
         notifies: bool,
     ) -> Result<(), AllocError> {
         if notifies && self.endpoint(engine).is_some() {
@@ -42,7 +42,7 @@ impl Agents {
     }
 
     /// From where the engine answered last.
-    pub(crate) fn endpoint(&self, engine: &EngineId) -> Option<Endpoint> {
+    pub(crate) fn endpoint(&self, engine: &EngineId) -> Option<SocketAddr> {
         match self.endpoints.get(engine) {
             Some(endpoint) => *endpoint,
             None => None,

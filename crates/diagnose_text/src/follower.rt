@@ -303,8 +303,8 @@ impl Follower {
             return false;
         }
         match line.route {
-            Some(route) => !SNMP_PORTS.contains(&route.from.port)
-                || SNMP_PORTS.contains(&route.to.port),
+            Some(route) => !SNMP_PORTS.contains(&route.from.port())
+                || SNMP_PORTS.contains(&route.to.port()),
             None => true,
         }
     }

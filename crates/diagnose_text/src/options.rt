@@ -4,9 +4,10 @@ ghost use Rattle.std.specs.Prelude.{◌≡◌, ◌↔◌, [], IsTrue, option_map
 ghost use Rattle.diagnose_text.specs.Wanted.{direction, is_agent_at, is_engine_of, is_in, is_named};
 ghost use Rattle.diagnose_text.specs.Wanted.{is_one_of, is_same_address, is_wanted, is_way_of};
 
-use capture_files::{Address, Endpoint, Route};
+use capture_files::Route;
 use engine_clock::EngineId;
 use std::alloc::Global;
+use std::net::{IpAddr, SocketAddr};
 use usm_users::UserName;
 
 /// How exchanges are printed.
@@ -21,32 +22,21 @@ pub enum Style {
 /// An agent as the user names it.
 #[derive(Clone, Copy, Debug, PartialEq, Eq)]
 pub struct NamedAgent {
-    pub address: Address,
+    pub address: IpAddr,
     /// Its port; each where there is none.
     pub port: Option<u16>,
 }
 
 impl NamedAgent {
     /// The agent is there.
-    fn is_at(self, endpoint: Endpoint) -> bool
+    fn is_at(self, endpoint: SocketAddr) -> bool
         ensures { result ≡ is_agent_at endpoint self }
     {
         let is_port = match self.port {
-            Some(port) => port == endpoint.port,
+            Some(port) => port == endpoint.port(),
             None => true,
         };
-        is_port && same_address(self.address, endpoint.address)
-    }
-}
-
-/// Both are the same address.
-fn same_address(first: Address, second: Address) -> bool
-    ensures { result ≡ is_same_address first second }
-{
-    match (first, second) {
-        (Address::V4(first), Address::V4(second)) => first == second,
-        (Address::V6(first), Address::V6(second)) => first == second,
-        _ => false,
+        is_port && self.address == endpoint.ip()
     }
 }
 
@@ -80,7 +70,7 @@ impl DiagnoseOptions {
     }
 
     /// One of the agents is there.
-    fn names(&self, endpoint: Endpoint) -> bool
+    fn names(&self, endpoint: SocketAddr) -> bool
         ensures { result ≡ is_named self.now.agents.items endpoint }
     {
         self.agents.iter().any(|agent| agent.is_at(endpoint))

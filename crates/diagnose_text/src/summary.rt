@@ -15,12 +15,11 @@ use crate::counts::Counts;
 use crate::heads::clock_text;
 use crate::members::{Members, array_of, no_members, object_of, put_number, put_text};
 use crate::objects::line_of;
-use crate::words::endpoint_text;
-use capture_files::Endpoint;
 use engine_clock::{Clocks, EngineId};
 use serde_json::{Value as Json, put};
 use std::alloc::{AllocError, Global};
 use std::collections::BTreeSet;
+use std::net::SocketAddr;
 
 /// What is known of an engine.
 #[derive(Drop)]
@@ -29,7 +28,7 @@ pub(crate) struct EngineFacts {
     boots: u32,
     time: u32,
     seen: u64,
-    agent: Option<Endpoint>,
+    agent: Option<SocketAddr>,
 }
 
 /// The summary as lines.
@@ -188,14 +187,13 @@ fn put_facts(alloc: Global, out: &mut String, facts: &EngineFacts) -> Result<(),
 }
 
 /// From where the engine answered last.
-fn agent_text(alloc: Global, agent: Option<Endpoint>) -> Result<String, AllocError>
+fn agent_text(alloc: Global, agent: Option<SocketAddr>) -> Result<String, AllocError>
     ensures { IfOk result (λ text. IsAgentText agent (string_bytes text)) }
 {
     let Some(endpoint) = agent else {
         return Ok(String::new(alloc));
     };
-    let shown = endpoint_text(alloc, endpoint)?;
-    format!(in alloc; "; agent {shown}")
+    format!(in alloc; "; agent {endpoint}")
 }
 
 /// The objects of engines.
@@ -219,13 +217,13 @@ fn engine_object(alloc: Global, facts: &EngineFacts) -> Result<Json, AllocError>
 }
 
 /// From where the engine answered last, or null.
-fn agent_value(alloc: Global, agent: Option<Endpoint>) -> Result<Json, AllocError>
+fn agent_value(alloc: Global, agent: Option<SocketAddr>) -> Result<Json, AllocError>
     ensures { IfOk result (λ json. IsAgentValue agent (view json)) }
 {
     let Some(endpoint) = agent else {
         return Ok(Json::Null);
     };
-    let shown = endpoint_text(alloc, endpoint)?;
+    let shown = format!(in alloc; "{endpoint}")?;
     Json::try_from_str(alloc, &shown)
 }
 

@@ -6,7 +6,6 @@ use crate::complaint::Complaint;
 use crate::replay::first_line_of;
 use capture_datagrams::datagrams::{PortsFault, ports_of};
 use capture_datagrams::forms::{Form, form_of, may_be_dumps};
-use capture_files::Address;
 use diagnose_text::NamedAgent;
 use engine_clock::EngineId;
 use snmpsec_output::moment_of;
@@ -116,13 +115,13 @@ pub(crate) fn engine_argument(alloc: Global, word: &str) -> Result<EngineId, Com
 pub(crate) fn agent_argument(alloc: Global, word: &str) -> Result<NamedAgent, Complaint> {
     if let Ok(socket) = word.parse::<SocketAddr>() {
         return Ok(NamedAgent {
-            address: address_of(socket.ip()),
+            address: socket.ip(),
             port: Some(socket.port()),
         });
     }
     match word.parse::<IpAddr>() {
         Ok(address) => Ok(NamedAgent {
-            address: address_of(address),
+            address,
             port: None,
         }),
         Err(_) => {
@@ -130,13 +129,5 @@ pub(crate) fn agent_argument(alloc: Global, word: &str) -> Result<NamedAgent, Co
             let wanted = "write it as 10.0.0.5, 10.0.0.5:161, 2001:db8::5 or [2001:db8::5]:161";
             Err(Complaint::word(alloc, "AGENT", word, why, wanted))
         }
-    }
-}
-
-/// The address as captures have it.
-fn address_of(address: IpAddr) -> Address {
-    match address {
-        IpAddr::V4(address) => Address::V4(address.octets()),
-        IpAddr::V6(address) => Address::V6(address.octets()),
     }
 }
