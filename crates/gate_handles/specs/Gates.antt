@@ -5,8 +5,8 @@
 -- `RefusesGate`: why there is none, the first that applies. `IsSaid`: what a configuration says, without its gateway.
 --
 -- `TakesClient`, `TakesDevice`, `SendsNext`: what becomes of a datagram and what goes out, with what happens by it
--- and that it is lawful after what happened before (`ClientHappens`, `DeviceHappens`, `SendHappens`). `RunsOut`:
--- there was no memory. `Empties`: all is given back.
+-- and that it is lawful after what happened before (`ClientHappens`, `DeviceHappens`, `SendHappens`). `IsGateDue`:
+-- when something is due by time alone. `RunsOut`: there was no memory. `Empties`: all is given back.
 use Rattle.std.specs.Prelude.{◌≡◌, ◌<◌, ◌≤◌, ◌⊎◌, ⊤, ℕ, List, [], map, Option, Some, None, option_map, Result, Ok, Err}
 use Rattle.std.specs.Prelude.{MatchOption, replicate, string_bytes}
 use Rattle.engine_clock.specs.Pairs.{pair_max}
@@ -16,6 +16,7 @@ use Rattle.vacm_core.specs.Tables.{Tables, HaveSameRows}
 use Rattle.vacm_core.specs.declared.rows.AccessRow.{AccessRow}
 use Rattle.snmp_message.specs.declared.refusal.Refusal.TheVariants.{OutOfMemory}
 use Rattle.snmp_agent.specs.Agent.{AgentState}
+use Rattle.snmp_gate.specs.Due.{AreIdle, IsFirstDue}
 use Rattle.snmp_gate.specs.Fits.{IsFitTold}
 use Rattle.snmp_gate.specs.Hidden.{IsHiddenTold}
 use Rattle.snmp_gate.specs.RequestTags.{IsNumberOfNone, IsTagOf}
@@ -262,12 +263,19 @@ pub record Sends (old : GateHeld) (now : ℕ) (f : Fresh) (told : Result GateEve
     : Type 0 where
   pub sent : Sent
   pub tells : TellsSent sent told new
+  -- there is nothing to do only if no request has ended, and nothing is due for any by time alone
+  pub idle : sent ≡ out.Nothing → AreIdle new.gate.limits now new.gate.requests.list.items
   pub happens : (since : ℕ) (before : List Happening) → since ≤ now → GateStands since before old.gate
       → SendHappens old.gate now before f sent new.gate
 
 abbrev pub SendsNext : GateHeld → ℕ → List ℕ → ℕ → Result GateEvent CallFault → GateHeld → Type 0
 SendsNext old now salt ask_id told new = KeepsSaid old new
     × (Sends old now (fresh salt ask_id) told new ⊎ RunsOut old now told new)
+
+-- when something is due by time alone: at the first moment of all requests'
+abbrev pub IsGateDue : Gate → Option ℕ → Type 0
+IsGateDue gate due = MatchOption due (gate.requests.list.items ≡ [])
+    (IsFirstDue gate.limits gate.requests.list.items)
 
 -- ---- giving back
 

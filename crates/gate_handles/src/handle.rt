@@ -4,7 +4,7 @@ ghost use Rattle.std.specs.Prelude.{◌≡◌};
 ghost use Rattle.std.specs.Int.{to_be_bytes, w64};
 ghost use Rattle.snmp_agent.specs.Counts.{count_at};
 ghost use Rattle.snmp_handles.specs.Parts.{CopiesMessage};
-ghost use Rattle.gate_handles.specs.Gates.{MakesGate, Empties};
+ghost use Rattle.gate_handles.specs.Gates.{MakesGate, Empties, IsGateDue};
 ghost use Rattle.gate_handles.specs.Gates.{TakesClient, TakesDevice, SendsNext};
 ghost use Rattle.gate_handles.specs.Gates.{ReadsGate};
 ghost use Rattle.gate_handles.specs.Told.{CountsOf, MayNotify, ReadsSetting, numbers_of};
@@ -228,7 +228,9 @@ impl GateHandle {
     }
 
     /// Returns the moment, in milliseconds, from which on `next` has something to do by time alone, if there is one.
-    pub fn due(&self) -> Option<u64> {
+    pub fn due(&self) -> Option<u64>
+        ensures { IsGateDue self.now.gate result }
+    {
         self.gate.due()
     }
 

@@ -4,7 +4,7 @@
 -- `SendsDue`: the answer is the number of what becomes of a datagram and of what goes out (`Eventful`). `TellsDue`,
 -- `TellsDatagram`, `TellsClientOf`, `TellsSetting`, `TellsMayNotify`, `TellsNumbersOf`, `GateCounter`, `GateCount`,
 -- `ClearsGate`: what each export answers and leaves. `TellsGateConfiguration`, `TellsUser`: those without a handle.
-use Rattle.std.specs.Prelude.{◌≡◌, ◌≤◌, ◌<◌, ◌⊎◌, ℕ, ℤ, pos, List, ◌++◌, length, drop, MatchOption, Result}
+use Rattle.std.specs.Prelude.{◌≡◌, ◌≤◌, ◌<◌, ◌⊎◌, ℕ, ℤ, pos, List, ◌++◌, length, drop, MatchOption, Some, None, Result}
 use Rattle.std.specs.Int.{to_be_bytes, w64}
 use Rattle.snmp_agent.specs.Counts.{count_at}
 use Rattle.snmp_handles.specs.Faults.{code, access_code, value_code, fault_code}
@@ -14,6 +14,7 @@ use Rattle.snmp_handles.specs.declared.fault.CallFault.{CallFault}
 use Rattle.snmp_handles.specs.declared.fault.CallFault.TheVariants.{BadArgument, NothingTaken, ShortBuffer}
 use Rattle.gate_handles.specs.Events.{event_code}
 use Rattle.gate_handles.specs.Gates.{GateHeld, MakesGate, ReadsGate, TakesClient, TakesDevice, SendsNext, Empties}
+use Rattle.gate_handles.specs.Gates.{IsGateDue}
 use Rattle.gate_handles.specs.Told.{setting_of, ReadsSetting, MayNotify, CountsOf, TellsGate, CopiesUser}
 use Rattle.gate_handles.specs.Told.{numbers_of}
 use Rattle.vacm_core.specs.declared.access.Access.{Access}
@@ -49,7 +50,8 @@ SendsDue now salt ask_id old new answer =
 -- the moment is written where there is one
 abbrev pub TellsDue : ℕ → ℕ → GateHeld → GateHeld → ℤ → Type 0
 TellsDue at at_new old new answer = (new ≡ old)
-    × ((answer ≡ pos 0) ⊎ ((answer ≡ fault_code NothingTaken) × (at_new ≡ at)))
+    × (((answer ≡ pos 0) × IsGateDue old.gate (Some at_new))
+    ⊎ ((answer ≡ fault_code NothingTaken) × (at_new ≡ at) × IsGateDue old.gate None))
 
 abbrev pub TellsDatagram : List ℕ → List ℕ → ℕ → ℕ → GateHeld → GateHeld → ℤ → Type 0
 TellsDatagram out out_new written written_new old new answer = (new ≡ old)
