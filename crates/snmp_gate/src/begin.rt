@@ -43,8 +43,9 @@ pub(crate) fn ending_of(refusal: AccessRefusal) -> RequestEnd
     }
 }
 
-/// How many variables a request for values asks for at most. Each name that waits has room for 128 arcs.
-const MOST_VARIABLES: usize = 128;
+/// How many variables a request for values asks for at most. A binding has 7 octets at least, so a datagram of 1,472
+/// octets has no more than 210.
+const MOST_VARIABLES: usize = 256;
 
 /// Returns how a request ends that asks for more variables: by tooBig (RFC 3416, section 4.2.1).
 fn asks_too_much() -> RequestEnd

@@ -40,7 +40,7 @@ use crate::waiting_message::WaitingMessage;
 use crate::work::{OpenRequest, RequestEnd, Work};
 use snmp_msg::Pdu;
 use snmp_responder::Viewer;
-use snmp_walk::AnswerFault;
+use snmp_walk::{AnswerFault, binding_count};
 use std::alloc::{AllocError, Global};
 use std::mem;
 use vacm_core::Vacm;
@@ -112,15 +112,6 @@ fn waits_for(work: &Work, device: usize, id: u32) -> bool
     }
 }
 
-/// Returns how many bindings a message has.
-fn count_of(pdu: &Pdu<'_>) -> usize {
-    let mut count = 0;
-    for _binding in pdu.variable_bindings() {
-        count = usize::saturating_add(count, 1);
-    }
-    count
-}
-
 /// When a request is late, in milliseconds.
 #[derive(Clone, Copy)]
 struct Lateness {
@@ -151,7 +142,7 @@ fn take_open(
 {
     let taken = message.kept.taken();
     let viewer = viewer_of(tables, &taken);
-    let bindings = count_of(&pdu_of(&taken));
+    let bindings = binding_count(&pdu_of(&taken));
     let became = take_task(alloc, &mut waiting.task, &viewer, bindings, answer)?;
     Ok(became)
 }

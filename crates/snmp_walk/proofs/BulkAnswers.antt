@@ -1,7 +1,7 @@
 -- Whole answers to a GetBulkRequest.
-use Rattle.std.specs.Prelude.{◌≡◌, ◌<◌, ◌++◌, ℕ, List, [], ◌∷◌, All, Contains, Option, Some, None, length, map, set, take, slice_index_or}
+use Rattle.std.specs.Prelude.{◌≡◌, ◌<◌, ◌++◌, ℕ, List, [], ◌∷◌, All, Contains, Option, Some, None, ⊤, length, map, set, take, slice_index_or}
 use Rattle.std.specs.List.{HoldsAt, AllZip}
-use Rattle.std.proofs.Common.{refl, sym, ap, subst, ◌∙◌, arith, Bool}
+use Rattle.std.proofs.Common.{refl, sym, ap, subst, ◌∙◌, append-nil, arith, Bool}
 use Rattle.std.proofs.lemmas.List.{take_at}
 use Rattle.std.proofs.lemmas.List.Elements.{All-head, All-set, All-tail, All-weaker}
 use Rattle.std.proofs.lemmas.Slice.Zip.{AllZip-long}
@@ -9,7 +9,7 @@ use Rattle.snmp_msg.specs.Variables.{Variable}
 use Rattle.snmp_walk.specs.Bindings.{given_says}
 use Rattle.snmp_walk.specs.Column.{IsAsked}
 use Rattle.snmp_walk.specs.BulkColumn.{BulkStands, StandsInBulk, bulk_request, given_in}
-use Rattle.snmp_walk.specs.BulkSteps.{ColumnReads, Grows, IsBegun, IsForgotten, IsSettled, SaysSame, Settles, turn_of}
+use Rattle.snmp_walk.specs.BulkSteps.{ColumnReads, Grows, IsBegun, IsForgotten, IsMarked, IsSettled, IsUnread, SaysSame, Settles, turn_of}
 use Rattle.snmp_walk.specs.BulkAnswer.{AllSaySame, IsRead}
 use Rattle.snmp_walk.specs.Turns.{AreAsked, AreTurns, IsTurnAt, ReadsTurns}
 use Rattle.snmp_walk.specs.declared.given.GivenVariable.{GivenVariable}
@@ -40,15 +40,50 @@ turns_begin olds begun ts begins asked =
           (turn.0, one.1.turn ∙ turn.1),
     )
 
--- an answer that was begun and read in part
-abbrev BegunTo : BulkColumn → BulkColumn → Type 0
-BegunTo old now = (begun : BulkColumn) × IsBegun old begun × Grows begun now
+-- an answer that was begun after it was noted how many variables there are
+marked_begun : (old marked begun : BulkColumn) → IsMarked old marked → IsBegun marked begun → IsBegun old begun
+marked_begun old marked begun mark begins =
+    let says = mark.says_same in
+    record {
+      says_same = record { same = begins.says_same.same ∙ says.same; given = begins.says_same.given ∙ says.given; progress = begins.says_same.progress ∙ says.progress };
+      had = begins.had ∙ ap (λ (gs : List GivenVariable). length gs) says.given;
+      turn = begins.turn ∙ ap turn_of says.progress;
+    }
+
+pub marks_begun : (olds marked begun : List BulkColumn) → AllZip IsMarked olds marked → AllZip IsBegun marked begun → AllZip IsBegun olds begun
+marks_begun = zip_on IsMarked IsBegun IsBegun marked_begun
+
+pub marks_unread : (olds marked : List BulkColumn) → AllZip IsMarked olds marked → All IsUnread marked
+marks_unread olds marked marks = zip_all IsMarked (λ (c : BulkColumn). ⊤) IsUnread (λ old new mark known. mark.unread) olds marked marks (λ k d within. tt)
+
+marked_asked : (olds marked : List BulkColumn) (number : ℕ) → AllZip IsMarked olds marked → (number < length olds) × HoldsAt (λ (c : BulkColumn). IsAsked c.progress) olds number
+    → (number < length marked) × HoldsAt (λ (c : BulkColumn). IsAsked c.progress) marked number
+marked_asked olds marked number marks at = (
+  omega (arith, AllZip-long IsMarked olds marked marks, at.0),
+  λ d. let one = zip_at IsMarked olds marked number d d at.0 marks in subst IsAsked (sym one.1.says_same.progress) (at.1 d),
+)
+
+pub marks_asked : (olds marked : List BulkColumn) (ts : List ℕ) → AllZip IsMarked olds marked → AreAsked olds ts → AreAsked marked ts
+marks_asked olds marked ts marks asked =
+    All-weaker (λ number. (number < length olds) × HoldsAt (λ (c : BulkColumn). IsAsked c.progress) olds number)
+    (λ number. (number < length marked) × HoldsAt (λ (c : BulkColumn). IsAsked c.progress) marked number)
+    (λ number at. marked_asked olds marked number marks at) ts asked
+
+pub grows_not : (c : BulkColumn) → Grows c c
+grows_not c = record { same = refl; progress = refl; had = refl; turn = λ turn. turn; more = []; given = sym (append-nil c.got.items) }
+
+-- more is read of an answer that was read in part
+pub all_grow_more : (xs ys zs : List BulkColumn) → AllZip Grows xs ys → AllZip Grows ys zs → AllZip Grows xs zs
+all_grow_more = zip_on Grows Grows Grows grows_on
+
+-- an answer that was read in part
+abbrev MarkedTo : BulkColumn → BulkColumn → Type 0
+MarkedTo old now = (marked : BulkColumn) × IsMarked old marked × Grows marked now
 
 -- an answer that is given back
-forgot : (old now new : BulkColumn) → BegunTo old now → IsForgotten now new → SaysSame old new
+forgot : (old now new : BulkColumn) → MarkedTo old now → IsForgotten now new → SaysSame old new
 forgot old now new to forgotten =
-    let begun = to.0 in
-    let had : now.had ≡ length old.got.items = to.2.had ∙ to.1.had in
+    let had : now.had ≡ length old.got.items = to.2.had ∙ to.1.unread.had ∙ ap (λ (gs : List GivenVariable). length gs) to.1.says_same.given in
     let items : now.got.items ≡ old.got.items ++ to.2.more = to.2.given ∙ ap (λ (gs : List GivenVariable). gs ++ to.2.more) to.1.says_same.given in
     record {
       same = forgotten.same ∙ to.2.same ∙ to.1.says_same.same;
@@ -56,10 +91,10 @@ forgot old now new to forgotten =
       progress = forgotten.progress ∙ to.2.progress ∙ to.1.says_same.progress;
     }
 
-pub given_back : (olds begun now news : List BulkColumn) → AllZip IsBegun olds begun → AllZip Grows begun now → AllZip IsForgotten now news → AllSaySame olds news
-given_back olds begun now news begins grows forgotten =
-    zip_on BegunTo IsForgotten SaysSame forgot olds now news
-    (zip_on IsBegun Grows BegunTo (λ old b n begin grow. (b, begin, grow)) olds begun now begins grows) forgotten
+pub given_back : (olds marked now news : List BulkColumn) → AllZip IsMarked olds marked → AllZip Grows marked now → AllZip IsForgotten now news → AllSaySame olds news
+given_back olds marked now news marks grows forgotten =
+    zip_on MarkedTo IsForgotten SaysSame forgot olds now news
+    (zip_on IsMarked Grows MarkedTo (λ old m n mark grow. (m, mark, grow)) olds marked now marks grows) forgotten
 
 -- ---- what is known of the columns
 

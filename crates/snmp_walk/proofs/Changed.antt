@@ -2,8 +2,9 @@
 use Rattle.std.specs.Prelude.{◌≡◌, ◌≤◌, ◌<◌, ◌+◌, ◌-◌, List, [], ◌∷◌, ◌++◌, ℕ, length, take, drop, set, slice_index_or}
 use Rattle.std.specs.List.{AllZip}
 use Rattle.std.proofs.Common.{refl, sym, ap, subst, ◌∙◌, arith, append_assoc, append-nil}
-use Rattle.std.proofs.lemmas.List.{length-append, length-drop, length_push, drop_more, take_more, set_at, get_or_at, drop_all, take_all}
+use Rattle.std.proofs.lemmas.List.{length-append, length-drop, length_push, drop_more, take_more, set_at, get_or_at, drop_all, take_all, take-append-drop}
 use Rattle.std.proofs.lemmas.Slice.Zip.{all_zipped_more}
+use Rattle.snmp_walk.proofs.Zipped.{zip_itself, zip_joined, zip_weaker}
 
 abbrev pub Changed : {A : Type 0} → (A → A → Type 0) → List A → ℕ → List A → Type 0
 Changed {A} R olds i now = (done : List A) × (length done ≡ i) × (now ≡ done ++ drop i olds) × AllZip R (take i olds) done
@@ -41,3 +42,13 @@ all_changed R olds now i past changed =
     let short : length olds ≤ i = omega (arith, counted, past, changed.1) in
     let is = changed.2 ∙ ap (λ zs. done ++ zs) (drop_all i olds short) ∙ append-nil done in
     subst (λ zs. AllZip R olds zs) (sym is) (subst (λ zs. AllZip R zs done) (take_all i olds short) changed.3)
+
+-- some were changed, and the others stay as they are
+pub changed_so_far : {A : Type 0} (R S : A → A → Type 0) → ((x y : A) → R x y → S x y) → ((x : A) → S x x) → (olds now : List A) (i : ℕ) (d y : A) → i < length now → Changed R olds i now → S (slice_index_or now i d) y → AllZip S olds (set now i y)
+changed_so_far R S weaker itself olds now i d y within changed r =
+    let done = changed.0 in
+    let before : Changed S olds i now = (done, changed.1, changed.2, zip_weaker R S weaker (take i olds) done changed.3) in
+    let last = one_changed S olds now i d y within before r in
+    subst (λ zs. AllZip S olds zs) (sym last.2)
+    (subst (λ zs. AllZip S zs (last.0 ++ drop (i + 1) olds)) (take-append-drop (i + 1) olds)
+    (zip_joined S (take (i + 1) olds) last.0 (drop (i + 1) olds) (drop (i + 1) olds) last.3 (zip_itself S itself (drop (i + 1) olds))))

@@ -1,5 +1,5 @@
 -- Lists that belong together, element by element.
-use Rattle.std.specs.Prelude.{◌≡◌, List, [], ◌∷◌, All, map}
+use Rattle.std.specs.Prelude.{◌≡◌, List, [], ◌∷◌, ◌++◌, All, map}
 use Rattle.std.specs.List.{AllZip}
 use Rattle.std.proofs.Common.{refl, arith}
 use Rattle.std.proofs.lemmas.List.Elements.{All-cons, All-head, All-tail}
@@ -23,3 +23,19 @@ zip_same R f same [] [] r = refl
 zip_same R f same [] (y ∷ ys) r = absurd r
 zip_same R f same (x ∷ xs) [] r = absurd r
 zip_same R f same (x ∷ xs) (y ∷ ys) r = λ i. same x y r.0 i ∷ zip_same R f same xs ys r.1 i
+
+pub zip_weaker : {A B : Type 0} (R S : A → B → Type 0) → ((x : A) (y : B) → R x y → S x y) → (xs : List A) (ys : List B) → AllZip R xs ys → AllZip S xs ys
+zip_weaker R S weaker [] [] r = tt
+zip_weaker R S weaker [] (y ∷ ys) r = absurd r
+zip_weaker R S weaker (x ∷ xs) [] r = absurd r
+zip_weaker R S weaker (x ∷ xs) (y ∷ ys) r = (weaker x y r.0, zip_weaker R S weaker xs ys r.1)
+
+pub zip_joined : {A B : Type 0} (R : A → B → Type 0) (xs : List A) (ys : List B) (more : List A) (others : List B) → AllZip R xs ys → AllZip R more others → AllZip R (xs ++ more) (ys ++ others)
+zip_joined R [] [] more others r s = s
+zip_joined R [] (y ∷ ys) more others r s = absurd r
+zip_joined R (x ∷ xs) [] more others r s = absurd r
+zip_joined R (x ∷ xs) (y ∷ ys) more others r s = (r.0, zip_joined R xs ys more others r.1 s)
+
+pub zip_itself : {A : Type 0} (R : A → A → Type 0) → ((x : A) → R x x) → (xs : List A) → AllZip R xs xs
+zip_itself R itself [] = tt
+zip_itself R itself (x ∷ xs) = (itself x, zip_itself R itself xs)

@@ -1,8 +1,8 @@
 -- What becomes of a column of a GetBulkRequest (RFC 3416, section 4.2.3).
 --
--- `BulkGoesOn`: before the device is asked. `ColumnWaits`: where the device isn't asked for it after all. `IsBegun`,
--- `ColumnReads`, `IsSettled`: while an answer is read, which gives it one variable after another, and after that.
--- `IsForgotten`: an answer is given back. `SaysSame`: nothing changed.
+-- `BulkGoesOn`: before the device is asked. `ColumnWaits`: where the device isn't asked for it after all. `IsMarked`,
+-- `IsBegun`, `ColumnReads`, `IsSettled`: before and while an answer is read, which gives it one variable after another,
+-- and after that. `IsForgotten`: an answer is given back. `SaysSame`: nothing changed.
 use Rattle.std.specs.Prelude.{◌≡◌, ◌⊎◌, ◌<◌, ◌≤◌, ◌++◌, ℕ, List, [], ◌∷◌, Option, Some, None, length, take}
 use Rattle.snmp_msg.specs.Variables.{Variable}
 use Rattle.snmp_responder.specs.Bulk.{IsEnded}
@@ -68,6 +68,16 @@ BulkTakes Seen given v more new = (IsEnded v × (more ≡ given) × (new ≡ End
 abbrev pub turn_of : Progress → Option Progress
 turn_of (Asked ask) = Some (Asked ask)
 turn_of _ = None
+
+-- nothing of an answer was read for the column
+pub record IsUnread (c : BulkColumn) : Type 0 where
+  pub had : c.had ≡ length c.got.items
+  pub no_turn : c.reading ≡ None
+
+-- it is noted how many variables there are
+pub record IsMarked (old new : BulkColumn) : Type 0 where
+  pub says_same : SaysSame old new
+  pub unread : IsUnread new
 
 -- an answer begins
 pub record IsBegun (old new : BulkColumn) : Type 0 where

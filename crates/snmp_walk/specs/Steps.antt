@@ -1,7 +1,7 @@
 -- What becomes of a column (RFC 3416, sections 4.2.1 and 4.2.2).
 --
 -- `Begins`: how it begins. `GoesOn`: before the device is asked. `Takes`: after it answered.
-use Rattle.std.specs.Prelude.{◌≡◌, ℕ, List}
+use Rattle.std.specs.Prelude.{◌≡◌, ℕ, List, Option, Some, None}
 use Rattle.snmp_msg.specs.Variables.{Variable}
 use Rattle.vacm_next.specs.Walk.{IsSeenAfter, NoneOf, WalksFrom}
 use Rattle.snmp_responder.specs.Bulk.{IsEnded}
@@ -17,6 +17,11 @@ Begins Seen Get first (Wanting from) = (from ≡ first) × Seen first
 Begins Seen Get first Hidden = ¬ Seen first
 Begins Seen GetNext first (Wanting from) = from ≡ first
 Begins Seen operation first _ = ⊥
+
+-- how a walk is that goes on from this name and asks for another one, or else is at its end
+abbrev pub asking : List ℕ → Option (List ℕ) → Progress
+asking from (Some name) = Asked (record { from = from; name = name })
+asking from None = Ended
 
 -- of a column that wants this name or what comes after it: of a GetRequest the name is asked, and of a walk the place
 -- before the next name that is seen; a walk after which none is seen is at its end

@@ -1,11 +1,11 @@
 //! Answers of the device to a GetBulkRequest.
 
-ghost use Rattle.std.specs.Prelude.{◌≡◌, [], ℕ, List, true, false, IfOk, MatchOption, OnErr};
+ghost use Rattle.std.specs.Prelude.{◌≡◌, [], ℕ, List, All, true, false, IfOk, MatchOption, OnErr, OnOk};
 ghost use Rattle.std.specs.List.{AllZip};
 ghost use Rattle.snmp_msg.specs.Variables.{variables_of};
 ghost use Rattle.snmp_responder.specs.Code.{seen_by};
 ghost use Rattle.snmp_walk.specs.BulkAnswer.{AllSaySame, IsBulkFault, IsRead, IsReadFault, ReadSoFar};
-ghost use Rattle.snmp_walk.specs.BulkSteps.{Grows, IsBegun, IsForgotten, IsSettled};
+ghost use Rattle.snmp_walk.specs.BulkSteps.{Grows, IsBegun, IsForgotten, IsMarked, IsSettled, IsUnread};
 ghost use Rattle.snmp_walk.specs.Turns.{AreAsked, AreTurns, turns_left};
 
 use crate::answer::AnswerFault;
@@ -15,13 +15,25 @@ use snmp_msg::Pdu;
 use snmp_responder::Viewer;
 use std::alloc::{AllocError, Global};
 
-/// Begins to read an answer.
-fn begin_each(columns: &mut Vec<BulkColumn>)
-    ensures { AllZip IsBegun columns.old.items columns.new.items }
+/// Notes how many variables each column has before an answer is read.
+fn mark_each(columns: &mut Vec<BulkColumn>)
+    ensures { AllZip IsMarked columns.old.items columns.new.items }
 {
     for column in columns.iter_mut() {
-        column.begin();
+        column.mark();
     }
+}
+
+/// Begins to read an answer. The error is out of memory.
+fn begin_each(columns: &mut Vec<BulkColumn>, alloc: Global) -> Result<(), AllocError>
+    requires { All IsUnread columns.old.items }
+    ensures grows { AllZip Grows columns.old.items columns.new.items }
+    ensures begun { OnOk result (AllZip IsBegun columns.old.items columns.new.items) }
+{
+    for column in columns.iter_mut() {
+        column.begin(alloc)?;
+    }
+    Ok(())
 }
 
 /// Settles what was read of an answer.
@@ -102,6 +114,31 @@ fn read_turns(
     }
 }
 
+/// Reads an answer in these turns, of which nothing was read before, and returns why its bindings don't answer what was
+/// asked, if they don't.
+fn read_marked(
+    columns: &mut Vec<BulkColumn>,
+    alloc: Global,
+    viewer: &Viewer<'_>,
+    answer: &Pdu<'_>,
+    turns: Turns,
+    is_whole: bool,
+) -> Result<Option<AnswerFault>, AllocError>
+    requires unread { All IsUnread columns.old.items }
+    requires asked { AreAsked columns.old.items (turns_left turns) }
+    ensures grows { AllZip Grows columns.old.items columns.new.items }
+    ensures reads { IfOk result (λ found. (begun : List BulkColumn) × AllZip IsBegun columns.old.items begun
+        × MatchOption found
+        ((left : List ℕ) × (is_whole ≡ true → left ≡ [])
+        × ReadSoFar (seen_by viewer.now) begun (turns_left turns) (variables_of answer.now.list.now)
+        left columns.new.items)
+        (IsReadFault (seen_by viewer.now) is_whole begun (turns_left turns) (variables_of answer.now.list.now))) }
+{
+    begin_each(columns, alloc)?;
+    let fault = read_turns(columns, alloc, viewer, answer, turns, is_whole)?;
+    Ok(fault)
+}
+
 /// Reads an answer in these turns. Its bindings answer what was asked, and each column has its own; or it is returned
 /// why they don't, and nothing changes. `is_whole`: none of the bindings may be missing. The error is out of memory,
 /// and nothing changes.
@@ -122,8 +159,8 @@ pub(crate) fn read_answer(
         (variables_of answer.now.list.now) fault)) }
     ensures err { OnErr result (AllSaySame columns.old.items columns.new.items) }
 {
-    begin_each(columns);
-    match read_turns(columns, alloc, viewer, answer, turns, is_whole) {
+    mark_each(columns);
+    match read_marked(columns, alloc, viewer, answer, turns, is_whole) {
         Ok(None) => {
             settle_each(columns);
             Ok(None)

@@ -1,6 +1,7 @@
 //! One binding of a GetBulkRequest.
 
-ghost use Rattle.std.specs.Prelude.{◌≡◌, ◌↔◌, ◌+◌, ◌<◌, ℕ, List, length, IsTrue, IfOk, IfSome, MatchOption, OnOk};
+ghost use Rattle.std.specs.Prelude.{◌≡◌, ◌↔◌, ◌+◌, ◌<◌, ℕ, List, length, IsTrue, IfOk, IfSome, MatchOption};
+ghost use Rattle.std.specs.Prelude.{OnOk};
 ghost use Rattle.snmp_ber.specs.Oid.{IsObjectId};
 ghost use Rattle.snmp_msg.specs.Variables.{Variable, bound_variable, variable_of};
 ghost use Rattle.snmp_responder.specs.Code.{seen_by};
@@ -10,11 +11,12 @@ ghost use Rattle.snmp_walk.specs.BulkColumn.{name_before, octets_in, shown};
 ghost use Rattle.snmp_walk.specs.Front.{IsOverAt};
 ghost use Rattle.snmp_walk.specs.ObjectIds.{IsNamed};
 ghost use Rattle.snmp_walk.specs.BulkSteps.{BulkGoesOn, ColumnReads, ColumnRefuses, ColumnWaits, FitsIn, Grows};
-ghost use Rattle.snmp_walk.specs.BulkSteps.{IsBegun};
+ghost use Rattle.snmp_walk.specs.BulkSteps.{IsBegun, IsMarked, IsUnread};
 ghost use Rattle.snmp_walk.specs.BulkSteps.{IsForgotten, IsSettled, IsTurn, MisfitsIn, ReadsValue, Waits, asked_after};
 
-use crate::column::{Ask, Progress, walk_on_from};
+use crate::column::{Ask, Progress, asked_at, place_of};
 use crate::given::{GivenVariable, copy};
+use crate::kept_name::KeptName;
 use crate::misfit::{Misfit, is_end, misfit_of};
 use crate::operation::ReadOperation;
 use snmp_ber::Oid;
@@ -27,7 +29,7 @@ use std::mem;
 /// repeater up to max-repetitions.
 #[derive(Drop)]
 pub struct BulkColumn {
-    first: Oid,
+    first: KeptName,
     most: usize,
     got: Vec<GivenVariable>,
     progress: Progress,
@@ -37,14 +39,14 @@ pub struct BulkColumn {
     reading: Option<Progress>,
 }
 
-/// Returns what a walk is that asks for what comes after this name.
-fn asked_from(name: &Oid) -> Progress
-    ensures { result ≡ asked_after name.now }
+/// Returns what a walk is that asks for what comes after this name. The error is out of memory.
+fn asked_from(alloc: Global, name: &Oid) -> Result<Progress, AllocError>
+    ensures { IfOk result (λ progress. progress ≡ asked_after name.now) }
 {
-    Progress::Asked(Ask {
-        from: copy(name),
+    Ok(Progress::Asked(Ask {
+        from: KeptName::of(alloc, name)?,
         name: copy(name),
-    })
+    }))
 }
 
 /// Returns why the binding doesn't fit where a walk is in an answer, if it doesn't.
@@ -72,21 +74,25 @@ fn waiting(progress: Progress) -> Progress
 }
 
 impl BulkColumn {
-    /// Returns the column of a binding with this name, of which up to `most` variables are wanted.
-    pub fn new(alloc: Global, name: &Oid, most: usize) -> BulkColumn
-        ensures request { bulk_request result ≡ (name.now, most) }
-        ensures is_new { IsNew result }
-        ensures stands { (viewer : Viewer) (told : List Variable) → BulkStands (seen_by viewer) told result }
-        ensures named { IsObjectId name.now → IsNamed result.progress }
+    /// Returns the column of a binding with this name, of which up to `most` variables are wanted. The error is out of
+    /// memory.
+    pub fn new(alloc: Global, name: &Oid, most: usize) -> Result<BulkColumn, AllocError>
+        ensures request { IfOk result (λ c. bulk_request c ≡ (name.now, most)) }
+        ensures is_new { IfOk result IsNew }
+        ensures stands { IfOk result
+            (λ c. (viewer : Viewer) (told : List Variable) → BulkStands (seen_by viewer) told c) }
+        ensures named { IsObjectId name.now → IfOk result (λ c. IsNamed c.progress) }
     {
-        BulkColumn {
-            first: copy(name),
+        let first = KeptName::of(alloc, name)?;
+        let from = first.copy(alloc)?;
+        Ok(BulkColumn {
+            first,
             most,
             got: Vec::new(alloc),
-            progress: Progress::Wanting(copy(name)),
+            progress: Progress::Wanting(from),
             had: 0,
             reading: None,
-        }
+        })
     }
 
     /// Returns how many variables the device gave that the message may see.
@@ -137,7 +143,9 @@ impl BulkColumn {
         let Progress::Wanting(from) = &self.progress else {
             return;
         };
-        self.progress = walk_on_from(viewer, from);
+        let place = place_of(viewer, ReadOperation::GetNext, from);
+        let wanting = mem::replace(&mut self.progress, Progress::Ended);
+        self.progress = asked_at(wanting, place);
     }
 
     /// Asks the device later, if it was asked.
@@ -170,18 +178,28 @@ impl BulkColumn {
         }
     }
 
-    /// Begins to read an answer.
-    pub(crate) fn begin(&mut self)
-        ensures { IsBegun self.old self.new }
+    /// Notes how many variables there are before an answer is read.
+    pub(crate) fn mark(&mut self)
+        ensures { IsMarked self.old self.new }
     {
         self.had = self.got.len();
-        self.reading = match &self.progress {
-            Progress::Asked(ask) => Some(Progress::Asked(Ask {
-                from: copy(&ask.from),
-                name: copy(&ask.name),
-            })),
-            _ => None,
+        self.reading = None;
+    }
+
+    /// Begins to read an answer, if the device was asked. The error is out of memory.
+    pub(crate) fn begin(&mut self, alloc: Global) -> Result<(), AllocError>
+        requires { IsUnread self.old }
+        ensures grows { Grows self.old self.new }
+        ensures begun { OnOk result (IsBegun self.old self.new) }
+    {
+        let Progress::Asked(ask) = &self.progress else {
+            return Ok(());
         };
+        self.reading = Some(Progress::Asked(Ask {
+            from: ask.from.copy(alloc)?,
+            name: copy(&ask.name),
+        }));
+        Ok(())
     }
 
     /// Reads a value, which fits. The error is out of memory.
@@ -195,12 +213,11 @@ impl BulkColumn {
         ensures reads { OnOk result (ReadsValue (seen_by viewer.now) self.old (bound_variable binding.now) self.new) }
     {
         let name = binding.name.oid();
-        if !viewer.sees(&name) {
-            self.reading = Some(asked_from(&name));
-            return Ok(());
+        let after = asked_from(alloc, &name)?;
+        if viewer.sees(&name) {
+            self.got.push(GivenVariable::of(alloc, binding)?)?;
         }
-        self.got.push(GivenVariable::of(alloc, binding)?)?;
-        self.reading = Some(asked_from(&name));
+        self.reading = Some(after);
         Ok(())
     }
 
@@ -250,7 +267,7 @@ impl BulkColumn {
     }
 
     /// Returns the last name that the message knows of.
-    fn last_shown(&self) -> &Oid
+    fn last_shown(&self) -> &KeptName
         ensures { result.now ≡ shown self.now }
     {
         match self.got.last() {
@@ -286,7 +303,7 @@ impl BulkColumn {
             return Some(given.binding());
         }
         match &self.progress {
-            Progress::Ended => Some(end_of_mib_view(self.last_shown())),
+            Progress::Ended => Some(end_of_mib_view(&self.last_shown().oid())),
             _ => None,
         }
     }

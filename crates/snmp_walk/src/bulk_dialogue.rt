@@ -16,6 +16,7 @@ ghost use Rattle.snmp_walk.specs.ObjectIds.{BulkAllNamed};
 use crate::answer::AnswerFault;
 use crate::bulk_ask::{BulkAsk, ask_of, choose, fewest};
 use crate::bulk_column::BulkColumn;
+use crate::counting::binding_count;
 use crate::front::front_of;
 use snmp_msg::{Binding, Pdu};
 use snmp_responder::Viewer;
@@ -187,10 +188,10 @@ impl BulkDialogue {
     {
         let non_repeaters = count_of(request.second);
         let max_repetitions = count_of(request.third);
-        let mut columns = Vec::new(alloc);
+        let mut columns = Vec::with_capacity(alloc, binding_count(request))?;
         for binding in request.variable_bindings() {
             let most = most_of(columns.len(), non_repeaters, max_repetitions);
-            columns.push(BulkColumn::new(alloc, &binding.name.oid(), most))?;
+            columns.push(BulkColumn::new(alloc, &binding.name.oid(), most)?)?;
         }
         Ok(BulkDialogue {
             columns,

@@ -1,28 +1,31 @@
 //! One binding of a request.
 
-ghost use Rattle.std.specs.Prelude.{◌≡◌, ◌↔◌, ℕ, List, IsTrue, IfSome, MatchOption, Contains};
+ghost use Rattle.std.specs.Prelude.{◌≡◌, ◌↔◌, ℕ, List, IsTrue, IfOk, IfSome, MatchOption, Contains};
 ghost use Rattle.snmp_ber.specs.Oid.{IsObjectId};
 ghost use Rattle.snmp_msg.specs.Variables.{Variable, bound_variable, variable_of};
 ghost use Rattle.snmp_responder.specs.Code.{seen_by};
 ghost use Rattle.snmp_walk.specs.Bindings.{FitsPlace, Misfits, given_says};
 ghost use Rattle.snmp_walk.specs.Column.{Asks, IsAsked, IsOpen, IsShownBy, MayAsk, MayShow, Stands};
-ghost use Rattle.snmp_walk.specs.Steps.{Begins, GoesOn, GoesOnFrom, Takes};
+ghost use Rattle.snmp_walk.specs.Steps.{Begins, GoesOn, GoesOnFrom, Takes, asking};
 ghost use Rattle.snmp_walk.specs.ObjectIds.{IsNamed};
 
-use crate::given::{GivenVariable, copy};
+use crate::given::GivenVariable;
+use crate::kept_name::KeptName;
 use crate::misfit::{Misfit, is_end, misfit_of};
 use crate::operation::ReadOperation;
 use crate::place::place_after;
 use snmp_ber::Oid;
 use snmp_msg::{Binding, VariableBinding};
 use snmp_responder::{Viewer, end_of_mib_view, no_such_object};
+use std::alloc::{AllocError, Global};
+use std::mem;
 
 /// What is asked of a device for a binding.
 #[derive(Drop)]
 pub struct Ask {
     /// The name that the column is at.
-    pub from: Oid,
-    /// The name that is asked.
+    pub from: KeptName,
+    /// The name that is asked. It has room for 128 arcs, so that a column goes on without memory.
     pub name: Oid,
 }
 
@@ -30,7 +33,7 @@ pub struct Ask {
 #[derive(Drop)]
 pub enum Progress {
     /// The device is to be asked: for this name, or in a walk for what comes after it.
-    Wanting(Oid),
+    Wanting(KeptName),
     /// The device was asked, and didn't answer yet.
     Asked(Ask),
     /// The device gave this, and the message may see it.
@@ -45,49 +48,53 @@ pub enum Progress {
 #[derive(Drop)]
 pub struct Column {
     operation: ReadOperation,
-    first: Oid,
+    first: KeptName,
     progress: Progress,
 }
 
-/// Returns how a column begins.
-fn first_progress(viewer: &Viewer<'_>, operation: ReadOperation, name: &Oid) -> Progress
-    ensures { Begins (seen_by viewer.now) operation name.now result }
+/// Returns how a column begins. The error is out of memory.
+fn first_progress(
+    alloc: Global,
+    viewer: &Viewer<'_>,
+    operation: ReadOperation,
+    name: &Oid,
+) -> Result<Progress, AllocError>
+    ensures { IfOk result (Begins (seen_by viewer.now) operation name.now) }
 {
     match operation {
         ReadOperation::Get => {
             if viewer.sees(name) {
-                Progress::Wanting(copy(name))
+                Ok(Progress::Wanting(KeptName::of(alloc, name)?))
             } else {
-                Progress::Hidden
+                Ok(Progress::Hidden)
             }
         }
-        ReadOperation::GetNext => Progress::Wanting(copy(name)),
+        ReadOperation::GetNext => Ok(Progress::Wanting(KeptName::of(alloc, name)?)),
     }
 }
 
-/// Returns how a walk goes on from this name.
-pub(crate) fn walk_on_from(viewer: &Viewer<'_>, from: &Oid) -> Progress
-    ensures { GoesOnFrom (seen_by viewer.now) ReadOperation.GetNext from.now result }
-{
-    match place_after(viewer, from) {
-        Some(name) => Progress::Asked(Ask {
-            from: copy(from),
-            name,
-        }),
-        None => Progress::Ended,
-    }
-}
-
-/// Returns how a column goes on that wants this name, or what comes after it.
-fn asked_from(viewer: &Viewer<'_>, operation: ReadOperation, from: &Oid) -> Progress
-    ensures { GoesOnFrom (seen_by viewer.now) operation from.now result }
+/// Returns the name for which a column asks that wants this name, or what comes after it. None: the walk is at its end.
+/// It takes no memory.
+pub(crate) fn place_of(
+    viewer: &Viewer<'_>,
+    operation: ReadOperation,
+    from: &KeptName,
+) -> Option<Oid>
+    ensures { GoesOnFrom (seen_by viewer.now) operation from.now (asking from.now result) }
 {
     match operation {
-        ReadOperation::Get => Progress::Asked(Ask {
-            from: copy(from),
-            name: copy(from),
-        }),
-        ReadOperation::GetNext => walk_on_from(viewer, from),
+        ReadOperation::Get => Some(from.oid()),
+        ReadOperation::GetNext => place_after(viewer, &from.oid()),
+    }
+}
+
+/// Returns how a column goes on that wants something, and asks for this name.
+pub(crate) fn asked_at(wanting: Progress, place: Option<Oid>) -> Progress
+    ensures { (from : List ℕ) → wanting ≡ Progress.Wanting from → result ≡ asking from place }
+{
+    match (wanting, place) {
+        (Progress::Wanting(from), Some(name)) => Progress::Asked(Ask { from, name }),
+        _ => Progress::Ended,
     }
 }
 
@@ -98,7 +105,7 @@ fn walk_after(viewer: &Viewer<'_>, given: GivenVariable) -> Progress
     if is_end(given.tag) {
         return Progress::Ended;
     }
-    if viewer.sees(&given.name) {
+    if viewer.sees(&given.name.oid()) {
         return Progress::Given(given);
     }
     Progress::Wanting(given.name)
@@ -116,18 +123,25 @@ fn progress_after(viewer: &Viewer<'_>, operation: ReadOperation, given: GivenVar
 
 impl Column {
     /// Returns the column of a binding with this name. The device is to be asked, but not for a GetRequest of a name
-    /// that the message may not see. It takes no memory.
-    pub fn new(viewer: &Viewer<'_>, operation: ReadOperation, name: &Oid) -> Column
-        ensures operation { result.operation ≡ operation }
-        ensures first { result.first ≡ name.now }
-        ensures begins { Begins (seen_by viewer.now) operation name.now result.progress }
-        ensures stands { (told : List Variable) → Stands (seen_by viewer.now) told result }
+    /// that the message may not see. The error is out of memory.
+    pub fn new(
+        alloc: Global,
+        viewer: &Viewer<'_>,
+        operation: ReadOperation,
+        name: &Oid,
+    ) -> Result<Column, AllocError>
+        ensures operation { IfOk result (λ c. c.operation ≡ operation) }
+        ensures first { IfOk result (λ c. c.first ≡ name.now) }
+        ensures begins { IfOk result (λ c. Begins (seen_by viewer.now) operation name.now c.progress) }
+        ensures stands { IfOk result (λ c. (told : List Variable) → Stands (seen_by viewer.now) told c) }
     {
-        Column {
+        let first = KeptName::of(alloc, name)?;
+        let progress = first_progress(alloc, viewer, operation, name)?;
+        Ok(Column {
             operation,
-            first: copy(name),
-            progress: first_progress(viewer, operation, name),
-        }
+            first,
+            progress,
+        })
     }
 
     /// Returns the operation of the request.
@@ -164,7 +178,9 @@ impl Column {
         let Progress::Wanting(from) = &self.progress else {
             return;
         };
-        self.progress = asked_from(viewer, self.operation, from);
+        let place = place_of(viewer, self.operation, from);
+        let wanting = mem::replace(&mut self.progress, Progress::Ended);
+        self.progress = asked_at(wanting, place);
     }
 
     /// Returns the name that the device is asked for, if it is asked.
@@ -233,8 +249,8 @@ impl Column {
         match &self.progress {
             Progress::Wanting(_) | Progress::Asked(_) => None,
             Progress::Given(given) => Some(given.binding()),
-            Progress::Hidden => Some(no_such_object(&self.first)),
-            Progress::Ended => Some(end_of_mib_view(&self.first)),
+            Progress::Hidden => Some(no_such_object(&self.first.oid())),
+            Progress::Ended => Some(end_of_mib_view(&self.first.oid())),
         }
     }
 }

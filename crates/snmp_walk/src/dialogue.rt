@@ -11,6 +11,7 @@ ghost use Rattle.snmp_walk.specs.ObjectIds.{AllNamed};
 
 use crate::answer::{AnswerFault, fault_of, given_by, take_each};
 use crate::column::Column;
+use crate::counting::binding_count;
 use crate::failure::{Failure, ended_walk, failure_of};
 use crate::operation::ReadOperation;
 use snmp_msg::{Binding, Pdu};
@@ -84,9 +85,9 @@ impl Dialogue {
         ensures rounds { IfOk result (λ d. d.rounds ≡ rounds) }
         ensures named { IfOk result AllNamed }
     {
-        let mut columns = Vec::new(alloc);
+        let mut columns = Vec::with_capacity(alloc, binding_count(request))?;
         for binding in request.variable_bindings() {
-            let column = Column::new(viewer, operation, &binding.name.oid());
+            let column = Column::new(alloc, viewer, operation, &binding.name.oid())?;
             columns.push(column)?;
         }
         Ok(Dialogue { columns, rounds })
@@ -185,7 +186,7 @@ impl Dialogue {
         ensures outwards { (viewer : Viewer) (told : List Variable) → AllStand (seen_by viewer) told self.now
             → IfOk result (λ v. AllZip (Shows (seen_by viewer) told) self.now.columns.items v.items) }
     {
-        let mut bindings = Vec::new(alloc);
+        let mut bindings = Vec::with_capacity(alloc, self.columns.len())?;
         for column in &self.columns {
             let Some(binding) = column.binding() else {
                 unreachable!();

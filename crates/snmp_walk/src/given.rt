@@ -4,6 +4,7 @@ ghost use Rattle.std.specs.Prelude.{◌≡◌, ◌+◌, length, IfOk};
 ghost use Rattle.snmp_msg.specs.Variables.{bound_variable, variable_of};
 ghost use Rattle.snmp_walk.specs.Bindings.{given_says};
 
+use crate::kept_name::KeptName;
 use snmp_ber::Oid;
 use snmp_msg::{Binding, VariableBinding};
 use std::alloc::{AllocError, Global};
@@ -12,7 +13,7 @@ use std::alloc::{AllocError, Global};
 #[derive(Drop)]
 pub struct GivenVariable {
     /// The name of the variable.
-    pub name: Oid,
+    pub name: KeptName,
     /// The tag of its value.
     pub tag: u8,
     /// The content of its value.
@@ -25,7 +26,7 @@ impl GivenVariable {
         ensures { IfOk result (λ given. given_says given ≡ bound_variable binding.now) }
     {
         Ok(GivenVariable {
-            name: binding.name.oid(),
+            name: KeptName::of(alloc, &binding.name.oid())?,
             tag: binding.tag,
             content: Vec::from_slice(alloc, binding.content)?,
         })
@@ -43,7 +44,7 @@ impl GivenVariable {
         ensures { variable_of result ≡ given_says self.now }
     {
         Binding {
-            name: copy(&self.name),
+            name: self.name.oid(),
             tag: self.tag,
             content: self.content.as_slice(),
         }

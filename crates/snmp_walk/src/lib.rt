@@ -6,8 +6,8 @@
 //! use snmp_ber::{Level, Oid};
 //! use snmp_responder::Viewer;
 //! use snmp_walk::{Column, ReadOperation};
-//! use snmpsec_config::{Config, ConfigFault};
-//! use std::alloc::Global;
+//! use snmpsec_config::Config;
+//! use std::alloc::{AllocError, Global};
 //!
 //! const TABLES: &[u8] = b"\
 //! [[context]]\nname = ''\n\
@@ -16,12 +16,7 @@
 //! [[family]]\nview = 'all'\nsubtree = '1.3.6.1.2.1.2'\ninclude = true\n";
 //!
 //! /// Whether a walk from the name asks for the place, and a Get of the hidden name for anything.
-//! fn asked(
-//!     alloc: Global,
-//!     name: &Oid,
-//!     place: &Oid,
-//!     hidden: &Oid,
-//! ) -> Result<(bool, bool), ConfigFault> {
+//! fn asked(alloc: Global, name: &Oid, place: &Oid, hidden: &Oid) -> Result<(bool, bool), Fail> {
 //!     let config = Config::read(alloc, TABLES)?;
 //!     let viewer = Viewer {
 //!         vacm: &config.access,
@@ -30,12 +25,22 @@
 //!         level: Level::NoAuthNoPriv,
 //!         context: b"",
 //!     };
-//!     let mut walk = Column::new(&viewer, ReadOperation::GetNext, name);
-//!     walk.go_on(&viewer);
-//!     let get = Column::new(&viewer, ReadOperation::Get, hidden);
-//!     let is_asked = walk.asked_name() == Some(place);
+//!     let is_asked = walk_asks(alloc, &viewer, name, place);
+//!     let get = Column::new(alloc, &viewer, ReadOperation::Get, hidden);
 //!     drop(config);
-//!     Ok((is_asked, get.is_open()))
+//!     Ok((is_asked?, get?.is_open()))
+//! }
+//!
+//! /// Whether a walk from the name asks for the place.
+//! fn walk_asks(
+//!     alloc: Global,
+//!     viewer: &Viewer<'_>,
+//!     name: &Oid,
+//!     place: &Oid,
+//! ) -> Result<bool, AllocError> {
+//!     let mut walk = Column::new(alloc, viewer, ReadOperation::GetNext, name)?;
+//!     walk.go_on(viewer);
+//!     Ok(walk.asked_name() == Some(place))
 //! }
 //!
 //! let name = Oid::from_text("1.3.6.1.2.1").ok_or("arcs")?;
@@ -199,10 +204,12 @@ mod bulk_column;
 mod bulk_dialogue;
 mod bulk_take;
 mod column;
+mod counting;
 mod dialogue;
 mod failure;
 mod front;
 mod given;
+mod kept_name;
 mod laws;
 mod misfit;
 mod operation;
@@ -214,9 +221,11 @@ pub use bulk_ask::BulkAsk;
 pub use bulk_column::BulkColumn;
 pub use bulk_dialogue::{BulkAnswered, BulkDialogue, BulkLimits, BulkNext};
 pub use column::{Ask, Column, Progress};
+pub use counting::binding_count;
 pub use dialogue::{Answered, Dialogue, Next};
 pub use failure::{Failure, FailureStatus, NO_SUCH_NAME};
 pub use given::GivenVariable;
+pub use kept_name::KeptName;
 pub use laws::{one_bulk_dialogue, one_dialogue};
 pub use misfit::Misfit;
 pub use operation::ReadOperation;

@@ -280,10 +280,10 @@ def behind_the_end(it):
 
 
 def names_too_many(it):
-    it.request(GET, [ONE] * 128)
+    it.request(GET, [ONE] * plain.MOST_VARIABLES)
     it.answer()
-    it.request(GET, [ONE] * 129)
-    it.request(SET, [ONE] * 129)
+    it.request(GET, [ONE] * (plain.MOST_VARIABLES + 1))
+    it.request(SET, [ONE] * (plain.MOST_VARIABLES + 1))
     it.answer()
 
 

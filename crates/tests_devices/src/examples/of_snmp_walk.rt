@@ -2,8 +2,8 @@
 use snmp_ber::{Level, Oid};
 use snmp_responder::Viewer;
 use snmp_walk::{Column, ReadOperation};
-use snmpsec_config::{Config, ConfigFault};
-use std::alloc::Global;
+use snmpsec_config::Config;
+use std::alloc::{AllocError, Global};
 use std::test::Fail;
 
 const TABLES: &[u8] = b"\
@@ -13,12 +13,7 @@ const TABLES: &[u8] = b"\
 [[family]]\nview = 'all'\nsubtree = '1.3.6.1.2.1.2'\ninclude = true\n";
 
 /// Whether a walk from the name asks for the place, and a Get of the hidden name for anything.
-fn asked(
-    alloc: Global,
-    name: &Oid,
-    place: &Oid,
-    hidden: &Oid,
-) -> Result<(bool, bool), ConfigFault> {
+fn asked(alloc: Global, name: &Oid, place: &Oid, hidden: &Oid) -> Result<(bool, bool), Fail> {
     let config = Config::read(alloc, TABLES)?;
     let viewer = Viewer {
         vacm: &config.access,
@@ -27,12 +22,22 @@ fn asked(
         level: Level::NoAuthNoPriv,
         context: b"",
     };
-    let mut walk = Column::new(&viewer, ReadOperation::GetNext, name);
-    walk.go_on(&viewer);
-    let get = Column::new(&viewer, ReadOperation::Get, hidden);
-    let is_asked = walk.asked_name() == Some(place);
+    let is_asked = walk_asks(alloc, &viewer, name, place);
+    let get = Column::new(alloc, &viewer, ReadOperation::Get, hidden);
     drop(config);
-    Ok((is_asked, get.is_open()))
+    Ok((is_asked?, get?.is_open()))
+}
+
+/// Whether a walk from the name asks for the place.
+fn walk_asks(
+    alloc: Global,
+    viewer: &Viewer<'_>,
+    name: &Oid,
+    place: &Oid,
+) -> Result<bool, AllocError> {
+    let mut walk = Column::new(alloc, viewer, ReadOperation::GetNext, name)?;
+    walk.go_on(viewer);
+    Ok(walk.asked_name() == Some(place))
 }
 
 #[test]

@@ -17,11 +17,11 @@ loop-binding-init c = record {
   ends = tt;
   done = [];
   joined = ap variables_left c.into_iter-binding-iterator.ensures.into_iter_gives ∙ c.variable_bindings-binding-items.ensures.first;
-  long = ap length c.new-columns.ensures.items;
-  requests = ap (map bulk_request) c.new-columns.ensures.items ∙ none_requested c.count_of-non_repeaters.result c.count_of-max_repetitions.result;
-  begin = rw c.new-columns.ensures.items (All-nil IsNew);
-  stand = λ viewer told. rw c.new-columns.ensures.items (All-nil (BulkStands (seen_by viewer) told));
-  named = rw c.new-columns.ensures.items (All-nil IsNamedBulk);
+  long = ap length c.in_ok-columns.ensures.items;
+  requests = ap (map bulk_request) c.in_ok-columns.ensures.items ∙ none_requested c.count_of-non_repeaters.result c.count_of-max_repetitions.result;
+  begin = rw c.in_ok-columns.ensures.items (All-nil IsNew);
+  stand = λ viewer told. rw c.in_ok-columns.ensures.items (All-nil (BulkStands (seen_by viewer) told));
+  named = rw c.in_ok-columns.ensures.items (All-nil IsNamedBulk);
 }
 
 pub loop-binding-preserved : goal.loop-binding-preserved
@@ -31,9 +31,9 @@ loop-binding-preserved c =
     let columns = c.loop-binding.columns.items in
     let joined = ap (λ (vs : List Variable). inv.done ++ vs) (sym c.in-Some.ensures.steps) ∙ inv.joined in
     let id = one_named c.args.request.now.list.now inv.done (variables_left c.next.new.self) v joined in
-    let column = c.new.result in
+    let column = c.in_ok-new.field-0 in
     let wanted = c.most_of-most.result in
-    let request = c.new.ensures.request ∙ ap (λ (name : List ℕ). (name, wanted)) c.oid.ensures in
+    let request = c.in_ok-new.ensures.request ∙ ap (λ (name : List ℕ). (name, wanted)) c.oid.ensures in
     let most = subst (λ n. IsMostOf n c.count_of-non_repeaters.result c.count_of-max_repetitions.result wanted) (c.len.ensures ∙ c.loop-binding.columns.ok.0) c.most_of-most.ensures in
     record {
       ready = tt;
@@ -42,7 +42,7 @@ loop-binding-preserved c =
       joined = append_assoc inv.done (v ∷ []) (variables_left c.next.new.self) ∙ joined;
       long = rw c.in_ok-push.ensures.items (omega (arith, inv.long, length_push columns column, length_push inv.done v));
       requests = rw c.in_ok-push.ensures.items (bulk_pushed c.count_of-non_repeaters.result c.count_of-max_repetitions.result columns column inv.done v wanted inv.long inv.requests request most);
-      begin = rw c.in_ok-push.ensures.items (All-push IsNew columns column inv.begin c.new.ensures.is_new);
-      stand = λ viewer told. rw c.in_ok-push.ensures.items (All-push (BulkStands (seen_by viewer) told) columns column (inv.stand viewer told) (c.new.ensures.stands viewer told));
-      named = rw c.in_ok-push.ensures.items (All-push IsNamedBulk columns column inv.named (c.new.ensures.named (subst IsObjectId (sym c.oid.ensures) id)));
+      begin = rw c.in_ok-push.ensures.items (All-push IsNew columns column inv.begin c.in_ok-new.ensures.is_new);
+      stand = λ viewer told. rw c.in_ok-push.ensures.items (All-push (BulkStands (seen_by viewer) told) columns column (inv.stand viewer told) (c.in_ok-new.ensures.stands viewer told));
+      named = rw c.in_ok-push.ensures.items (All-push IsNamedBulk columns column inv.named (c.in_ok-new.ensures.named (subst IsObjectId (sym c.oid.ensures) id)));
     }

@@ -7,5 +7,6 @@ use Rattle.snmp_walk.proofs.column.Column.new.Goals as goal
 pub returns-clause-stands : goal.returns-clause-stands
 returns-clause-stands c told =
     let seen = seen_by c.args.viewer.now in
-    subst (λ (name : List ℕ). StandsIn seen told c.args.operation name c.first_progress.result) (sym c.copy.ensures)
-    (begun_stands seen told c.args.operation c.args.name.now c.first_progress.result c.first_progress.ensures)
+    let progress = c.in_ok-progress.progress in
+    subst (λ (name : List ℕ). StandsIn seen told c.args.operation name progress) (sym c.in_ok-first.ensures)
+    (begun_stands seen told c.args.operation c.args.name.now progress c.in_ok-progress.ensures)

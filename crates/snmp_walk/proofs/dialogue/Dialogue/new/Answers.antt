@@ -24,11 +24,11 @@ loop-binding-preserved c =
       ends = tt;
       done = inv.done ++ v ∷ [];
       joined = append_assoc inv.done (v ∷ []) (variables_left c.next.new.self) ∙ joined;
-      requests = rw c.in_ok-push.ensures.items (pushed columns c.new-column.result c.args.operation inv.done v inv.requests c.new-column.ensures.operation (c.new-column.ensures.first ∙ c.oid.ensures));
-      begin = rw c.in_ok-push.ensures.items (All-push (ColumnBegins (seen_by c.args.viewer.now)) columns c.new-column.result inv.begin
-          (subst (λ (o : ReadOperation). Begins (seen_by c.args.viewer.now) o c.new-column.result.first c.new-column.result.progress) (sym c.new-column.ensures.operation)
-          (subst (λ (name : List ℕ). Begins (seen_by c.args.viewer.now) c.args.operation name c.new-column.result.progress) (sym c.new-column.ensures.first) c.new-column.ensures.begins)));
-      stand = λ told. rw c.in_ok-push.ensures.items (All-push (Stands (seen_by c.args.viewer.now) told) columns c.new-column.result (inv.stand told) (c.new-column.ensures.stands told));
-      named = rw c.in_ok-push.ensures.items (All-push IsNamedColumn columns c.new-column.result inv.named
-          (begun_named (seen_by c.args.viewer.now) c.args.operation c.oid.result c.new-column.result.progress c.new-column.ensures.begins (subst IsObjectId (sym c.oid.ensures) id)));
+      requests = rw c.in_ok-push.ensures.items (pushed columns c.in_ok-column.column c.args.operation inv.done v inv.requests c.in_ok-column.ensures.operation (c.in_ok-column.ensures.first ∙ c.oid.ensures));
+      begin = rw c.in_ok-push.ensures.items (All-push (ColumnBegins (seen_by c.args.viewer.now)) columns c.in_ok-column.column inv.begin
+          (subst (λ (o : ReadOperation). Begins (seen_by c.args.viewer.now) o c.in_ok-column.column.first c.in_ok-column.column.progress) (sym c.in_ok-column.ensures.operation)
+          (subst (λ (name : List ℕ). Begins (seen_by c.args.viewer.now) c.args.operation name c.in_ok-column.column.progress) (sym c.in_ok-column.ensures.first) c.in_ok-column.ensures.begins)));
+      stand = λ told. rw c.in_ok-push.ensures.items (All-push (Stands (seen_by c.args.viewer.now) told) columns c.in_ok-column.column (inv.stand told) (c.in_ok-column.ensures.stands told));
+      named = rw c.in_ok-push.ensures.items (All-push IsNamedColumn columns c.in_ok-column.column inv.named
+          (begun_named (seen_by c.args.viewer.now) c.args.operation c.oid.result c.in_ok-column.column.progress c.in_ok-column.ensures.begins (subst IsObjectId (sym c.oid.ensures) id)));
     }
