@@ -1,7 +1,8 @@
-"""Devices that are made from a seed, and ways in which they behave and misbehave: what check-walk and check-gate share.
+"""Devices that are made from a seed, and ways in which they behave and misbehave: what check-walk and check-gate
+share.
 
-A device has variables whose names have 2 to 4 arcs of 0 to 4. It answers as RFC 3416 says, sections 4.2.1 to 4.2.3, or in one of the 30 ways of
-WAYS, 21 of which are wrong at some time.
+A device has variables whose names have 2 to 4 arcs of 0 to 4. It answers as RFC 3416 says, sections 4.2.1 to 4.2.3, or
+in one of the 30 ways of WAYS, 21 of which are wrong at some time.
 """
 from made_views import NAMES
 
@@ -12,7 +13,15 @@ VALUES = ((2, b"\x07"), (4, b"text"), (4, b""), (0x40, b"\x0a\0\0\1"), (0x41, b"
 
 
 def element(tag, content):
-    return bytes([tag, len(content)]) + content
+    length = len(content)
+    octets = (
+        bytes([length])
+        if length < 0x80
+        else bytes([0x81, length])
+        if length < 0x100
+        else bytes([0x82, *length.to_bytes(2, "big")])
+    )
+    return bytes([tag]) + octets + content
 
 
 def arc(number):
@@ -57,18 +66,20 @@ class Variables:
         return [self.get(name) if kind == "get" else self.next(name) for name in names]
 
 
-# ---- how a device answers: each is given the exchange, the ask and what is due, and returns error-status, error-index and bindings
+# ---- how a device answers: each is given the exchange, the ask and what is due, and returns error-status, error-index
+# and bindings
+
 
 def good(_, ask, due):
     return 0, 0, due
 
 
 def cut(it, ask, due):
-    return 0, 0, due[:it.rng.randint(1, len(due))] if ask.kind == "get_bulk" and due else due
+    return 0, 0, due[: it.rng.randint(1, len(due))] if ask.kind == "get_bulk" and due else due
 
 
 def one_row(_, ask, due):
-    return 0, 0, due[:len(ask.names)]
+    return 0, 0, due[: len(ask.names)]
 
 
 def one_binding(_, ask, due):
@@ -84,7 +95,7 @@ def silent_above(it, ask, due):
 
 
 def version_1(_, ask, due):
-    ends = [place for place, (_, value) in enumerate(due[:len(ask.names)]) if value[0] >= 0x80]
+    ends = [place for place, (_, value) in enumerate(due[: len(ask.names)]) if value[0] >= 0x80]
     return (NO_SUCH_NAME, ends[0] + 1, [(name, (5, b"")) for name in ask.names]) if ends else (0, 0, due)
 
 
@@ -117,7 +128,7 @@ def gen_err(it, ask, _):
 
 
 def other_error(it, ask, _):
-    return it.rng.choice((-1, 3, 13, 18, 2 ** 31 - 1)), it.rng.choice((-1, 0, 1, len(ask.names) + 1)), []
+    return it.rng.choice((-1, 3, 13, 18, 2**31 - 1)), it.rng.choice((-1, 0, 1, len(ask.names) + 1)), []
 
 
 def always_too_big(_, ask, due):
@@ -146,7 +157,7 @@ def junk(it, _, due):
 
 def torn(it, _, due):
     octets = spelled(due)
-    return 0, 0, octets[:it.rng.randint(0, len(octets))]
+    return 0, 0, octets[: it.rng.randint(0, len(octets))]
 
 
 def bits(it, _, due):
@@ -161,7 +172,11 @@ def exceptions(it, _, due):
 
 
 def no_values(it, _, due):
-    return 0, 0, [(name, it.rng.choice(((5, b""), (2, b""), (0x47, b"\1"), (0x40, b"\1"), value))) for name, value in due]
+    return (
+        0,
+        0,
+        [(name, it.rng.choice(((5, b""), (2, b""), (0x47, b"\1"), (0x40, b"\1"), value))) for name, value in due],
+    )
 
 
 def behind_the_end(it, _, due):
@@ -169,17 +184,21 @@ def behind_the_end(it, _, due):
 
 
 def row_again(_, ask, due):
-    return 0, 0, due[:len(ask.names)] * 3 if ask.kind == "get_bulk" else due
+    return 0, 0, due[: len(ask.names)] * 3 if ask.kind == "get_bulk" else due
 
 
 def by_column(_, ask, due):
     repeaters = len(ask.names) - ask.singles
-    rest = due[ask.singles:]
-    return 0, 0, due[:ask.singles] + [one for place in range(repeaters) for one in rest[place::repeaters]]
+    rest = due[ask.singles :]
+    return 0, 0, due[: ask.singles] + [one for place in range(repeaters) for one in rest[place::repeaters]]
 
 
 def at_random(it, _, due):
-    return 0, 0, [(it.rng.choice(SPELLED), it.rng.choice(VALUES + (END,))) for _ in range(it.rng.randint(0, len(due) + 1))]
+    return (
+        0,
+        0,
+        [(it.rng.choice(SPELLED), it.rng.choice(VALUES + (END,))) for _ in range(it.rng.randint(0, len(due) + 1))],
+    )
 
 
 def sometimes(it, ask, due):
@@ -187,6 +206,27 @@ def sometimes(it, ask, due):
 
 
 BEHAVE = (good, cut, one_row, one_binding, small, silent_above, version_1, end_elsewhere, end_with_content)
-WAYS = BEHAVE + (other_names, swapped, same, back, gen_err, other_error, always_too_big, no_such_name, fewer, more, none, junk, torn, bits, exceptions,
-                 no_values, behind_the_end, row_again, by_column, at_random, sometimes)
+WAYS = BEHAVE + (
+    other_names,
+    swapped,
+    same,
+    back,
+    gen_err,
+    other_error,
+    always_too_big,
+    no_such_name,
+    fewer,
+    more,
+    none,
+    junk,
+    torn,
+    bits,
+    exceptions,
+    no_values,
+    behind_the_end,
+    row_again,
+    by_column,
+    at_random,
+    sometimes,
+)
 IN_OCTETS = junk, torn, bits, sometimes  # what these say isn't known here

@@ -1,8 +1,8 @@
-"""Views of few arcs that are made from a seed, and the program that is asked about them: what check-next and check-responder share.
+"""Views of few arcs that are made from a seed, and the program that is asked about them: what check-next,
+check-responder and check-walk share.
 
-A view has 1 to 8 family rows whose subtrees have 1 to 4 arcs of 0 to 2, with masks: rows at random, holes in holes, excluded siblings, and
-rows of one length whose wildcards cover one another.
-"""
+A view has 1 to 8 family rows whose subtrees have 1 to 4 arcs of 0 to 2, with masks: rows at random, holes in holes,
+excluded siblings, and rows of one length whose wildcards cover one another."""
 import argparse
 import itertools
 import os
@@ -12,15 +12,25 @@ import subprocess
 import sys
 import tempfile
 
-PROGRAM = pathlib.Path(__file__).resolve().parent.parent / "crates/tests_rows/out/tests_rows"
+TOP = pathlib.Path(__file__).resolve().parent.parent
+PROGRAM = TOP / "lib/out/rows"  # tools/rows-program makes it
+LIBRARIES = TOP / "crates/tests_rows/out/tests_rows"  # what is answered by no export
 LONGEST, ARCS, FREE = 4, 3, 2  # arcs of a name, arcs that rows have, and further ones
-NAMES = sorted(itertools.chain.from_iterable(itertools.product(range(ARCS + FREE), repeat=count) for count in range(1, LONGEST + 1)))
+NAMES = sorted(
+    itertools.chain.from_iterable(
+        itertools.product(range(ARCS + FREE), repeat=count) for count in range(1, LONGEST + 1)
+    )
+)
 PLACES = {name: place for place, name in enumerate(NAMES)}
 CHUNK = 1000
 CLOSING = re.compile(r"(\d+) passed, (\d+) failed")
-HEAD = ["new", "context -", "group 3 ann g", "access g - 3 noAuthNoPriv prefix v - -"]
-# sets of names are numbers whose bits are the places of names: those with an arc at a position, and those of at least so many arcs
-WITH_ARC = {(at, arc): sum(1 << place for place, name in enumerate(NAMES) if name[at:at + 1] == (arc,)) for at in range(LONGEST) for arc in range(ARCS)}
+# sets of names are numbers whose bits are the places of names: those with an arc at a position, and those of at least
+# so many arcs
+WITH_ARC = {
+    (at, arc): sum(1 << place for place, name in enumerate(NAMES) if name[at : at + 1] == (arc,))
+    for at in range(LONGEST)
+    for arc in range(ARCS)
+}
 AT_LEAST = [sum(1 << place for place, name in enumerate(NAMES) if len(name) >= count) for count in range(LONGEST + 1)]
 
 
@@ -75,7 +85,7 @@ def siblings(rng):
     """One is included, and all below it are excluded or nearly all."""
     above = subtree_of(rng, 1, LONGEST - 1)
     excluded = [(above + (arc,), mask_of(rng, 0.1), rng.random() < 0.1) for arc in range(ARCS)]
-    return [(above, mask_of(rng, 0.2), True), *excluded, *at_random(rng)[:rng.randint(0, 3)]]
+    return [(above, mask_of(rng, 0.2), True), *excluded, *at_random(rng)[: rng.randint(0, 3)]]
 
 
 def alike(rng):
@@ -94,16 +104,32 @@ def dotted(name):
     return ".".join(map(str, name))
 
 
-def family(row):
-    subtree, mask, include = row
-    return f"family v {dotted(subtree)} {mask.hex() or '-'} {'included' if include else 'excluded'}"
+def tables(rows):
+    """The tables of a user who may read a view of these rows, in TOML."""
+    lines = [
+        "[[context]]|name=''|[[group]]|model=3|name='ann'|group='g'",
+        "[[access]]|group='g'|prefix=''|model=3|level='noAuthNoPriv'|match='prefix'|read='v'",
+    ]
+    for subtree, mask, include in rows:
+        shown = f"|mask='{mask.hex()}'" if mask else ""
+        lines.append(f"[[family]]|view='v'|subtree='{dotted(subtree)}'{shown}|include={'true' if include else 'false'}")
+    return f"tables '{'|'.join(lines)}|"
 
 
 def compared(program, file, lines):
     """What the program says of these rows of data, line by line, and how many of them passed and failed."""
     with tempfile.TemporaryDirectory() as folder:
         pathlib.Path(folder, file).write_text("".join(f"{line}\n" for line in lines))
-        ran = subprocess.run([program, file], cwd=folder, stdin=subprocess.DEVNULL, capture_output=True, text=True, check=False)
+        environment = {"SNMPSEC_PROGRAM": str(TOP / "snmpsec"), **os.environ}
+        ran = subprocess.run(
+            [program, file],
+            cwd=folder,
+            env=environment,
+            stdin=subprocess.DEVNULL,
+            capture_output=True,
+            text=True,
+            check=False,
+        )
     *said, last = (ran.stdout + ran.stderr).splitlines() or [""]
     closing = CLOSING.fullmatch(last)
     if not closing or ran.returncode > 1:
@@ -111,12 +137,14 @@ def compared(program, file, lines):
     return [line for line in said if not line.startswith(f"{file} ")], int(closing[1]), int(closing[2])
 
 
-def compare_all(said_of_tool, what, count, file, lines_of):
+def compare_all(said_of_tool, what, count, file, lines_of, program=PROGRAM):
     """Runs the program over the rows of each of so many cases, and returns the status of the tool."""
     parser = argparse.ArgumentParser(description=said_of_tool.partition("\n")[0])
-    parser.add_argument(f"--{what}", dest="count", metavar="COUNT", type=int, default=count, help=f"so many {what} ({count})")
+    parser.add_argument(
+        f"--{what}", dest="count", metavar="COUNT", type=int, default=count, help=f"so many {what} ({count})"
+    )
     parser.add_argument("--seed", metavar="NUMBER", type=int, default=1, help=f"another seed makes other {what} (1)")
-    parser.add_argument("program", nargs="?", default=str(PROGRAM))
+    parser.add_argument("program", nargs="?", default=str(program))
     given = parser.parse_args()
     passed = failed = 0
     for first in range(0, given.count, CHUNK):

@@ -1,8 +1,9 @@
-"""A gateway in a plain form, to the octet: the messages of SNMPv3 and SNMPv2c, access to views, and what a gateway takes and sends.
+"""A gateway in a plain form, to the octet: the messages of SNMPv3 and SNMPv2c, access to views, and what a gateway
+takes and sends.
 
-RFC 3412, section 6, and RFC 3414, sections 2.4, 6.3.1 and 7.3.1 (messages); RFC 3415, section 3 (access); RFC 3413, section 3.2, and RFC 3416,
-section 4.2 (requests, and what becomes of a device's answers); RFC 1901, section 3 (messages to a device). docs/gateway.md tells what a gateway
-does. Nothing here is of the library: check-gate compares both.
+RFC 3412, section 6, and RFC 3414, sections 2.4, 6.3.1 and 7.3.1 (messages); RFC 3415, section 3 (access); RFC 3413,
+section 3.2, and RFC 3416, section 4.2 (requests, and what becomes of a device's answers); RFC 1901, section 3 (messages
+to a device). docs/gateway.md tells what a gateway does. Nothing here is of the library: check-gate compares both.
 """
 import functools
 import hmac
@@ -17,6 +18,9 @@ GET, GET_NEXT, RESPONSE, SET, GET_BULK, INFORM, TRAP, REPORT = 0xA0, 0xA1, 0xA2,
 CONFIRMED = GET, GET_NEXT, GET_BULK, SET, INFORM
 NO_ACCESS, RESOURCE_UNAVAILABLE, AUTHORIZATION_ERROR, LAST_STATUS = 6, 13, 16, 18
 NO_AUTH, AUTH, PRIV = 0, 1, 2
+# the limits that a configuration says, in the order of a row of data; the others are always the same
+CONFIGURED = "waiting", "rounds", "again", "tries", "last", "gather", "long_answers", "report_unreachable"
+JOINED, NAMES, GATHERED = 16, 100, 262028
 REMEMBERED, REMEMBERED_SETS, REQUEST_IDS, MOST_VARIABLES = 301_000, 4096, 1 << 31, 256
 COUNTERS = {
     "UnknownContexts": (1, 3, 6, 1, 6, 3, 12, 1, 5, 0),
@@ -104,7 +108,12 @@ def answer_in(datagram):
 
 
 def is_unsigned(content, most):
-    return bool(content) and content[0] < 0x80 and integer_content(int.from_bytes(content, "big")) == content and int.from_bytes(content, "big") < most
+    return (
+        bool(content)
+        and content[0] < 0x80
+        and integer_content(int.from_bytes(content, "big")) == content
+        and int.from_bytes(content, "big") < most
+    )
 
 
 def is_value(value):
@@ -134,7 +143,10 @@ class View:
 
     def __init__(self, rows):
         self.rows = sorted(rows, key=lambda row: (len(row[0]), row[0]), reverse=True)
-        self.compared = [(len(subtree), [at for at in range(len(subtree)) if compares(mask, at)], subtree, include) for subtree, mask, include in self.rows]
+        self.compared = [
+            (len(subtree), [at for at in range(len(subtree)) if compares(mask, at)], subtree, include)
+            for subtree, mask, include in self.rows
+        ]
         self.known, self.least = {}, {}
 
     def decides(self, name):
@@ -193,7 +205,8 @@ class View:
 
 
 class Tables:
-    """The four tables of RFC 3415: contexts, groups of users, access rows (group, prefix, is exact, level, read, write), and views."""
+    """The four tables of RFC 3415: contexts, groups of users, access rows (group, prefix, is exact, level, read,
+    write), and views."""
 
     def __init__(self, contexts, groups, access, views):
         self.contexts, self.groups, self.access, self.views = contexts, groups, access, views
@@ -209,7 +222,8 @@ class Tables:
                 and (message.context == row[1] if row[2] else message.context.startswith(row[1]))]
         if not fits:
             return "noAccessEntry"
-        # one row of a group, a prefix and a level: an exact one before a prefix, then the longest, then the highest level
+        # one row of a group, a prefix and a level: an exact one before a prefix, then the longest, then the highest
+        # level
         best = max(fits, key=lambda row: (row[2], len(row[1]), row[3]))
         return self.views.get(best[4 + is_write], "noSuchView")
 
@@ -233,7 +247,8 @@ class Column:
 
 
 class Ends(Exception):
-    """How a request ends: `what` is columns, front, own (error-status and error-index), a reason of RFC 3412, or silent."""
+    """How a request ends: `what` is columns, front, own (error-status and error-index), a reason of RFC 3412, or
+    silent."""
 
     def __init__(self, what, *numbers):
         super().__init__(what, numbers)
@@ -241,7 +256,8 @@ class Ends(Exception):
 
 
 class Unfit(Ends):
-    """Its device's answer doesn't fit what was asked: why, with the place and the misfit where it is one of a binding."""
+    """Its device's answer doesn't fit what was asked: why, with the place and the misfit where it is one of a
+    binding."""
 
     def __init__(self, why, *where):
         super().__init__("own", GEN_ERR, 0)
@@ -275,7 +291,9 @@ class Talk:
         self.singles, self.most = len(message.names), 1
         if self.tag == GET_BULK:
             self.singles, self.most = max(message.second, 0), max(message.third, 0)
-        self.columns = [Column(number, name, 1 if number < self.singles else self.most) for number, name in enumerate(message.names)]
+        self.columns = [
+            Column(number, name, 1 if number < self.singles else self.most) for number, name in enumerate(message.names)
+        ]
         if self.tag == GET:
             for column in self.columns:
                 if not view.sees(column.first):
@@ -318,7 +336,9 @@ class Talk:
     def choose(self, wanting):
         """Of the repeaters those that have the fewest are asked, as many as are asked at once."""
         fewest = min((len(column.got) for column in wanting if column.number >= self.singles), default=0)
-        chosen = [column for column in wanting if column.number < self.singles or len(column.got) == fewest][:max(self.at_once, 1)]
+        chosen = [column for column in wanting if column.number < self.singles or len(column.got) == fewest][
+            : max(self.at_once, 1)
+        ]
         due = min(self.repetitions, max(self.most - fewest, 0))
         if due > 1 and any(column.number >= self.singles for column in chosen):
             self.times = due
@@ -377,7 +397,11 @@ class Talk:
             raise Unfit("TooFew" if len(bindings) < len(self.asked) else "TooMany")
 
     def take_walks(self, bindings):
-        again = [place for place, (column, _) in enumerate(self.asked) if self.kind == GET_BULK and column.number >= self.singles]
+        again = [
+            place
+            for place, (column, _) in enumerate(self.asked)
+            if self.kind == GET_BULK and column.number >= self.singles
+        ]
         turns = list(range(len(self.asked))) + again * (self.times - 1)
         names, has_ended = [name for _, name in self.asked], set()
         for at, (place, (name, value)) in enumerate(zip(turns, bindings)):
@@ -412,7 +436,14 @@ class Message:
     """An accepted message."""
 
     def __init__(self, client, user, level, engine, context, pdu, numbers, datagram):
-        self.client, self.user, self.level, self.engine, self.context, self.datagram = client, user, level, engine, context, datagram
+        self.client, self.user, self.level, self.engine, self.context, self.datagram = (
+            client,
+            user,
+            level,
+            engine,
+            context,
+            datagram,
+        )
         self.tag, self.request_id, self.second, self.third, self.octets = pdu
         self.number, self.max_size, self.boots, self.time = numbers
         self.bindings = bindings_in(self.octets)
@@ -431,10 +462,18 @@ class Waiting:
 
 
 class Gateway:
-    """The calls of the gateway. Each returns what a row of data answers, and `log` has what was accepted, asked, answered and sent."""
+    """The calls of the gateway. Each returns what a row of data answers, and `log` has what was accepted, asked,
+    answered and sent."""
 
     def __init__(self, engine, boots, started, tables, devices, limits):
-        self.engine, self.boots, self.started, self.tables, self.devices, self.limits = engine, boots, started, tables, devices, limits
+        self.engine, self.boots, self.started, self.tables, self.devices, self.limits = (
+            engine,
+            boots,
+            started,
+            tables,
+            devices,
+            limits,
+        )
         self.requests, self.begun, self.sets = [], 0, {}
         self.ids = [[] for _ in devices]
         self.counters = dict.fromkeys(COUNTERS, 0)
@@ -453,7 +492,8 @@ class Gateway:
     def take_client(self, now, message):
         own = now // 1000 - self.started
         if message.level and (message.boots != self.boots or abs(own - message.time) > 150):
-            # (RFC 3412, section 7.1, step 3: on what isn't read yet by its flag, else on what is of the Confirmed Class)
+            # (RFC 3412, section 7.1, step 3: on what isn't read yet by its flag, else on what is of the Confirmed
+            # Class)
             has_report = message.level == PRIV or message.tag in CONFIRMED
             return f"refused 10 NotInWindow {'report' if has_report else 'no report'}"
         self.log.append(("accepted", message))
@@ -465,11 +505,9 @@ class Gateway:
             return "no room"
         return self.begin(now, message)
 
-    def is_noted(self, message):
-        return message.tag == SET and self.why_unhandled(message) is None
-
     def join(self, now, request, message):
-        is_noted = self.is_noted(message)
+        # (one that joins is remembered, even if its context isn't known)
+        is_noted = message.tag == SET
         if is_noted and message.datagram in self.sets:
             return "set of before"
         if is_noted and len(self.sets) >= REMEMBERED_SETS:
@@ -521,7 +559,9 @@ class Gateway:
         for number, name in enumerate(message.names):
             if not view.sees(name):
                 raise Ends("own", NO_ACCESS, number + 1)
-        if len(self.response(now, message, LAST_STATUS, len(message.names), message.octets, bytes(8))) > self.limit_of(message):
+        if len(self.response(now, message, LAST_STATUS, len(message.names), message.octets, bytes(8))) > self.limit_of(
+            message
+        ):
             raise Ends("own", TOO_BIG, 0)
         if not message.names:
             raise Ends("own", 0, 0)
@@ -542,7 +582,9 @@ class Gateway:
         if answer is None:
             return "unreadable"
         community, request_id, status, index, bindings = answer
-        request = next((it for it in self.requests if it.ends is None and it.device == number and it.asked == request_id), None)
+        request = next(
+            (it for it in self.requests if it.ends is None and it.device == number and it.asked == request_id), None
+        )
         if request is None or community != self.community_of(request):
             return "not waited for"
         self.ids[number].remove(request_id)
@@ -571,7 +613,11 @@ class Gateway:
         if not request.talk:
             raise Ends("own", *self.set_outcome(request.messages[0], status, index))
         request.talk.take(status, index, bindings)
-        if request.talk.tag == GET_BULK and now - request.began >= self.limits["gather"] and request.talk.has_repetition():
+        if (
+            request.talk.tag == GET_BULK
+            and now - request.began >= self.limits["gather"]
+            and request.talk.has_repetition()
+        ):
             raise Ends("front")
         request.talk.go_on()
 
@@ -644,7 +690,9 @@ class Gateway:
         if message.tag not in CONFIRMED:
             return None
         octets = spelled([(COUNTERS[why], (0x41, integer_content(self.counters[why])))])
-        return self.seal(now, message, scoped_of(self.engine, b"", pdu_of(REPORT, message.request_id, 0, 0, octets)), salt)
+        return self.seal(
+            now, message, scoped_of(self.engine, b"", pdu_of(REPORT, message.request_id, 0, 0, octets)), salt
+        )
 
     def answer(self, now, request, salt):
         message = request.messages.pop(0)
@@ -665,10 +713,14 @@ class Gateway:
                 self.sets[message.datagram] = self.sets[message.datagram][0], numbers
             return self.fitting(now, request, message, *numbers, None, salt)
         if what == "columns":
-            return self.fitting(now, request, message, 0, 0, [column.binding(0) for column in request.talk.columns], salt)
+            return self.fitting(
+                now, request, message, 0, 0, [column.binding(0) for column in request.talk.columns], salt
+            )
         if what == "front":
             talk = request.talk
-            return self.fitting(now, request, message, 0, 0, front_of(talk.columns, talk.singles, talk.most), salt, True)
+            return self.fitting(
+                now, request, message, 0, 0, front_of(talk.columns, talk.singles, talk.most), salt, True
+            )
         datagram = self.report(now, message, what, salt)
         if datagram:
             self.log.append(("reports", request, message))

@@ -29,18 +29,25 @@ class Command:
 
 def help_of(program, *words):
     """The parser's help stands on standard error."""
-    return subprocess.run([program, *words, "--help"], stdin=subprocess.DEVNULL, stderr=subprocess.PIPE, text=True, check=False).stderr
+    return subprocess.run(
+        [program, *words, "--help"], stdin=subprocess.DEVNULL, stderr=subprocess.PIPE, text=True, check=False
+    ).stderr
 
 
 def command_of(name, about, text):
     told = dict(re.findall(r"^  [<[]([A-Z]+)[]>](?:\.\.\.)? +(\S.*)$", text, re.M))
     usage = re.search(r"^Usage: .*$", text, re.M)[0].replace("[OPTIONS]", "")
-    words = [Word(it, told[it], opening == "[", bool(many)) for opening, it, many in re.findall(r"([<[])([A-Z]+)[]>](\.\.\.)?", usage)]
+    words = [
+        Word(it, told[it], opening == "[", bool(many))
+        for opening, it, many in re.findall(r"([<[])([A-Z]+)[]>](\.\.\.)?", usage)
+    ]
     options = re.findall(r"^ +(?:-\w, )?(--[a-z-]+)(?: <([A-Z]+)>)? +(\S.*)$", text, re.M)
     return Command(name, about, words, [Option(*it) for it in options if it[0] != "--help"])
 
 
 def commands_of(program):
     """The commands in the order of help, but for help itself."""
-    listed = re.findall(r"^  ([a-z][a-z-]*)  +(\S.*)$", help_of(program).partition("Commands:")[2].partition("Options:")[0], re.M)
+    listed = re.findall(
+        r"^  ([a-z][a-z-]*)  +(\S.*)$", help_of(program).partition("Commands:")[2].partition("Options:")[0], re.M
+    )
     return [command_of(name, about, help_of(program, name)) for name, about in listed if name != "help"]

@@ -16,53 +16,126 @@ PROOF = 4_500_000_000  # octets of memory that a proof takes, at most
 MARK = "unproved_build"  # the symbol that each executable has which tools/unproved makes
 
 
-def load_kit():
-    """rt's own code as a module. It counts on the memory that proofs take: its own figure is up to three times as much, and leaves processors idle."""
-    path = os.path.realpath(shutil.which("rt") or sys.exit("there is no command rt: the Rattle kit isn't on the path"))
-    sys.path.insert(0, os.path.dirname(path))
-    loader = importlib.machinery.SourceFileLoader("rt_main", path)
-    rt = importlib.util.module_from_spec(importlib.util.spec_from_loader("rt_main", loader))
-    loader.exec_module(rt)
-    expected = rt.need
-    rt.need = lambda crate: min(PROOF, expected(crate))
-    return rt
+# What the tools use of rt's own code, which the kit promises nobody. tools/check-kit sees that all of it is there.
+OF_COMMAND = ("Crate", "free", "handles_of", "in_lanes", "main", "need", "processors", "read_files", "run")
+OF_LIBRARY = (
+    "Crate",
+    "KIT",
+    "PARTS",
+    "RATTLE",
+    "crates_below",
+    "files_of",
+    "guarded",
+    "kit_sources",
+    "lock",
+    "text_of",
+)
+OF_CRATE = (
+    "allowed",
+    "below",
+    "build_rlib",
+    "build_static",
+    "call",
+    "check",
+    "compile",
+    "count",
+    "folder",
+    "has_tests",
+    "is_built",
+    "is_program",
+    "is_static",
+    "link",
+    "makes_rlib",
+    "name",
+    "of_kit",
+    "rlib",
+    "sources_below",
+    "stamp",
+    "words",
+)
 
 
-def load_rt():
-    """rt's own code, for a tool: it reads crates.txt, knows the words of a check, and what may run side by side."""
-    rt = load_kit()
-    # as rt ci has them: the links that they make are held to the handles that are allowed
-    rt.rtlib.Crate = rt.Crate
-    rt.Crate.allowed = rt.handles_of(os.getcwd())
-    made = rt.Crate.__init__
+class Kit:
+    """rt's own code, for the tools: it reads crates.txt, knows the words of a check, and what may run side by side. It
+    counts on the memory that proofs take: its own figure is up to three times as much, and leaves processors
+    idle."""
 
-    def make(crate, *words, **named):
-        made(crate, *words, **named)
-        rt.read_files(crate)
+    def __init__(self):
+        path = os.path.realpath(
+            shutil.which("rt") or sys.exit("there is no command rt: the Rattle kit isn't on the path")
+        )
+        sys.path.insert(0, os.path.dirname(path))
+        loader = importlib.machinery.SourceFileLoader("rt_main", path)
+        self.rt = importlib.util.module_from_spec(importlib.util.spec_from_loader("rt_main", loader))
+        loader.exec_module(self.rt)
+        expected = self.rt.need
+        self.rt.need = lambda crate: min(PROOF, expected(crate))
+        inside = self.rt.rtlib
+        self.folder, self.rattle, self.parts = inside.KIT, inside.RATTLE, inside.PARTS
+        self.text_of, self.files_of, self.guarded, self.kit_sources = (
+            inside.text_of,
+            inside.files_of,
+            inside.guarded,
+            inside.kit_sources,
+        )
+        self.free, self.processors, self.in_lanes, self.lock = (
+            self.rt.free,
+            self.rt.processors,
+            self.rt.in_lanes,
+            inside.lock,
+        )
 
-    rt.Crate.__init__ = make
-    # (its first call sets a signal's handler, which only the main thread may)
-    rt.rtlib.guarded()
-    return rt
+    def over_crates(self, cuts_libraries=False):
+        """For a tool that works on crates: they are as rt ci has them. If it cuts libraries, they are built as their
+        statements alone."""
+        rt = self.rt
+        rt.rtlib.Crate = rt.Crate
+        # (the links that they make are held to the handles that are allowed)
+        rt.Crate.allowed = rt.handles_of(os.getcwd())
+        made = rt.Crate.__init__
+
+        def make(crate, *words, **named):
+            made(crate, *words, **named)
+            rt.read_files(crate)
+
+        rt.Crate.__init__ = make
+        if cuts_libraries:
+            rt.Crate.cuts_libraries = True
+        # (its first call sets a signal's handler, which only the main thread may)
+        self.guarded()
+        return self
+
+    def need(self, crate):
+        """The octets of memory that a proof of the crate takes, at most."""
+        return self.rt.need(crate)
+
+    def run_tests(self, crate):
+        """Runs the tests of a crate that are built. Returns whether they pass."""
+        return self.rt.run(crate, True)
+
+    def gate(self, words):
+        """Runs the kit's gate with these words; its status."""
+        return self.rt.main(["ci", *words])
+
+    def crates(self, names):
+        """The crates of these names, or all of the repository."""
+        crates = self.rt.rtlib.crates_below(os.getcwd())
+        lost = sorted({*names} - {it.name for it in crates})
+        if lost:
+            sys.exit(f"crates.txt names no crate {lost[0]}")
+        return [it for it in crates if not names or it.name in names]
 
 
-def crates_named(rt, names):
-    """The crates of these names, or all of the repository."""
-    crates = rt.rtlib.crates_below(os.getcwd())
-    lost = sorted({*names} - {it.name for it in crates})
-    if lost:
-        sys.exit(f"crates.txt names no crate {lost[0]}")
-    return [it for it in crates if not names or it.name in names]
-
-
-def sums_of(rt, crate):
-    """The sums of all that an executable of the crate is made of, in the form of sha256sum, by paths from the top: the kit, and the crate's sources
-    and those below it. Proofs and wrong bodies change nothing in what is made."""
-    files = [f"{rt.rtlib.KIT}/KIT-ID"]
+def sums_of(kit, crate):
+    """The sums of all that an executable of the crate is made of, in the form of sha256sum, by paths from the top: the
+    kit, and the crate's sources and those below it. Proofs and wrong bodies change nothing in what is made."""
+    files = [f"{kit.folder}/KIT-ID"]
     for it in [crate, *crate.below()]:
         parts = (f"{it.folder}/{part}/" for part in ("src", "specs"))
-        files += sorted(file for part in parts for file in rt.rtlib.files_of(it.folder) if file.startswith(part))
-    return "".join(f"{sum_of(file)}  {os.path.relpath(file) if file.startswith(os.getcwd()) else file}\n" for file in files)
+        files += sorted(file for part in parts for file in kit.files_of(it.folder) if file.startswith(part))
+    return "".join(
+        f"{sum_of(file)}  {os.path.relpath(file) if file.startswith(os.getcwd()) else file}\n" for file in files
+    )
 
 
 def sum_of(file):
@@ -84,10 +157,9 @@ KEEPER = """#!/bin/sh
 exec '{clang}' "$@"
 """
 
-
-def toolchain_with(rt, made, script):
-    """Makes the kit's toolchain again in the folder, with this script in the place of clang; in it {clang} is the kit's."""
-    real = f"{rt.rtlib.KIT}/toolchain"
+def toolchain_with(kit, made, script):
+    """Makes the kit's toolchain again in the folder, with this script instead of clang; in it {clang} is the kit's."""
+    real = f"{kit.folder}/toolchain"
     os.makedirs(f"{made}/bin")
     os.symlink(f"{real}/lib", f"{made}/lib")
     for it in os.listdir(f"{real}/bin"):
@@ -99,12 +171,12 @@ def toolchain_with(rt, made, script):
 
 
 @contextlib.contextmanager
-def module_kept(rt, crate, to):
+def module_kept(kit, crate, to):
     """While it lasts, the crate is compiled by a clang that first copies the module that it is given to the file."""
-    real, call = f"{rt.rtlib.KIT}/toolchain", crate.call
+    real, call = f"{kit.folder}/toolchain", crate.call
     with tempfile.TemporaryDirectory(prefix="toolchain-") as room:
         made = f"{room}/toolchain"
-        toolchain_with(rt, made, KEEPER.replace("{to}", os.path.abspath(to)))
+        toolchain_with(kit, made, KEEPER.replace("{to}", os.path.abspath(to)))
         crate.call = lambda *words: call(*(made if it == real else it for it in words))
         try:
             yield
@@ -131,11 +203,11 @@ class Timed(subprocess.Popen):
         return pid, status
 
 
-def built_from(rt, crate):
+def built_from(kit, crate):
     """What the library is built from, as it stands now: the sources, and the libraries below it."""
     sums = []
     for dep in crate.below():
-        lines = (rt.rtlib.text_of(f"{dep.rlib}/format") or "").split("\n")
+        lines = (kit.text_of(f"{dep.rlib}/format") or "").split("\n")
         sums += [f"{dep.name} {line}" for line in lines if line.startswith("sum ")] or [f"{dep.name} isn't there"]
     return "\n".join([crate.stamp(), *sums])
 
@@ -146,22 +218,30 @@ def note_built(crate, built):
         it.write(built)
 
 
-def is_noted(rt, crate):
+def is_noted(kit, crate):
     """Whether the library is there, and is noted to be built from what stands now."""
-    return os.path.exists(f"{crate.rlib}/format") and rt.rtlib.text_of(f"{crate.folder}/out/rlib/sources") == built_from(rt, crate)
+    return os.path.exists(f"{crate.rlib}/format") and kit.text_of(f"{crate.folder}/out/rlib/sources") == built_from(
+        kit, crate
+    )
 
 
-def is_there(rt, crate):
-    """Whether the library is built: by what rt or these tools note of it, or as rt ci leaves it, which is newer than each source of it or below it."""
-    files = [file for it in [crate, *crate.below()] for file in rt.rtlib.files_of(it.folder)]
+def is_there(kit, crate):
+    """Whether the library is built: by what rt or these tools note of it, or as rt ci leaves it, which is newer than
+    each source of it or below it."""
+    files = [file for it in [crate, *crate.below()] for file in kit.files_of(it.folder)]
     made = f"{crate.rlib}/format"
-    return crate.is_built() or is_noted(rt, crate) or os.path.exists(made) and os.path.getmtime(made) > max(map(os.path.getmtime, files))
+    return (
+        crate.is_built()
+        or is_noted(kit, crate)
+        or os.path.exists(made)
+        and os.path.getmtime(made) > max(map(os.path.getmtime, files))
+    )
 
 
-def build_library(rt, crate, flags):
-    """Proves a library and builds it over the libraries below it as they lie there; the status of the command. It is built as its statements alone, but over
-    one that keeps its work that can't be."""
-    built = built_from(rt, crate)
+def build_library(kit, crate, flags):
+    """Proves a library and builds it over the libraries below it as they lie there; the status of the command. It is
+    built as its statements alone, but over one that keeps its work that can't be."""
+    built = built_from(kit, crate)
     keeps = any(os.path.isdir(f"{it.folder}/out/incremental") for it in [crate, *crate.below()])
     status = crate.build_rlib(flags, anew=not keeps)
     if not status:

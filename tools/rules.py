@@ -34,7 +34,8 @@ def sources(crate):
 
 
 def functions_of(text):
-    """(type or '', name, whether it is public, its text up to the next function, where it begins) of each function in a file."""
+    """(type or '', name, whether it is public, its text up to the next function, where it begins) of each function in a
+    file."""
     found = []
     owner = ""
     for line in HEAD.finditer(text):
@@ -83,7 +84,8 @@ def public_functions(crate):
 
 
 def module_of(crate, word):
-    """The file of a definition that a rule of the crate names, and the definition's own name, '' for the whole module."""
+    """The file of a definition that a rule of the crate names, and the definition's own name, '' for the whole
+    module."""
     owner, _, rest = word.rpartition(":")
     module, _, name = rest.partition(".")
     return CRATES / (owner or crate) / "specs" / (module.replace(".", "/") + ".antt"), name
@@ -106,7 +108,8 @@ def belongs(lines, at, first, name):
 
 
 def definition(crate, word):
-    """(file, number of the first line from 0, text) of a definition: the comment above it, its type and its equations."""
+    """(file, number of the first line from 0, text) of a definition: the comment above it, its type and its
+    equations."""
     path, name = module_of(crate, word)
     text = path.read_text()
     if not name:
@@ -166,7 +169,11 @@ class Place:
     def __init__(self, crate, text, path, first):
         self.path, self.head = path, first
         lines = path.read_text().split("\n")
-        spans = sources_of(crate).functions(str(path.relative_to(CRATES / crate))) if path.is_relative_to(CRATES / crate) else []
+        spans = (
+            sources_of(crate).functions(str(path.relative_to(CRATES / crate)))
+            if path.is_relative_to(CRATES / crate)
+            else []
+        )
         it = next((it for it in spans if it.first == first), None)
         # (a method of a trait without a body ends at its semicolon)
         body, last = (it.body, it.last) if it else (first, first + text.partition(";")[0].count("\n"))
@@ -189,7 +196,8 @@ def end_of_braces(text, at):
 
 
 def clauses_of(head):
-    """(ghost, requires or ensures, its name or '', its text with the comment above it) of each clause in a function's head."""
+    """(ghost, requires or ensures, its name or '', its text with the comment above it) of each clause in a function's
+    head."""
     found, end = [], 0
     for it in re.finditer(r"(?m)^((?: *//.*\n)*)( *)(requires|ensures|ghost)\*?(?: (\w+))?:? \{", head):
         if it.start() >= end:
@@ -221,6 +229,11 @@ def test_functions():
     return found
 
 
+def files_of_rows():
+    """The files of rows of data: those that are asked of the library and the program, and the others."""
+    return [*sorted((TOP / "lib" / "tests" / "rows").glob("*.rows")), *sorted(CRATES.glob("tests_rows/data/*.rows"))]
+
+
 def kinds_of_rows(path):
     return set(re.findall(r"(?m)^([a-z]\S*)", path.read_text()))
 
@@ -229,7 +242,7 @@ def test_names():
     found = set(test_functions())
     for path in (TOP / "tests" / "cli").glob("*.t"):
         found.add(path.name)
-    for path in CRATES.glob("tests_rows/data/*.rows"):
+    for path in files_of_rows():
         # a file of rows, and each kind of row in it
         found |= {path.name} | {f"{path.name} {kind}" for kind in kinds_of_rows(path)}
     return found
@@ -259,7 +272,9 @@ def difference(crate, name):
     lines = []
     for path, text in made.items():
         told = [*difflib.unified_diff(sources_there.texts[path].split("\n"), text.split("\n"), n=2, lineterm="")]
-        lines += [f"--- {path}"] + [it if not it.startswith("@@") else re.sub(r"^@@ -(\d+).*", r"@@ line \1 @@", it) for it in told[2:]]
+        lines += [f"--- {path}"] + [
+            it if not it.startswith("@@") else re.sub(r"^@@ -(\d+).*", r"@@ line \1 @@", it) for it in told[2:]
+        ]
     return [it.path for it in edit.owners], "\n".join(lines)
 
 
@@ -293,7 +308,11 @@ class Rule:
     def __init__(self, crate, sentence, cells):
         self.crate, self.sentence, self.section = crate, sentence, cells["section"]
         self.definitions, self.promises = names_in(cells["definition"]), [*promises(cells["function"])]
-        self.sources, self.tests, self.wrong = names_in(cells["source"]), names_in(cells["test"]), names_in(cells["wrong"])
+        self.sources, self.tests, self.wrong = (
+            names_in(cells["source"]),
+            names_in(cells["test"]),
+            names_in(cells["wrong"]),
+        )
 
 
 def pages():

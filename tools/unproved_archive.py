@@ -1,11 +1,19 @@
-"""What tools/unproved makes of a static library: a program that calls each of its exports, whose module then shows these exports and no `main`."""
+"""What tools/unproved makes of a static library: a program that calls each of its exports, whose module then shows
+these exports and no `main`."""
 import os
 import re
 import shutil
 
 PREFIX = "proved_"  # of the name of each export
-EXPORT = re.compile(r'^#\[unsafe\(no_mangle\)\]\npub (?:unsafe )?extern "C" fn (' + PREFIX + r'\w+)\((.*?)\)(?: -> \w+)?\n', re.MULTILINE | re.DOTALL)
-SLICE, PLACE, NUMBER = re.compile(r"&(mut )?\[(\w+)\]"), re.compile(r"&mut (\*mut u8|\w+)"), re.compile(r"[iu](?:32|64)|usize")
+EXPORT = re.compile(
+    r'^#\[unsafe\(no_mangle\)\]\npub (?:unsafe )?extern "C" fn (' + PREFIX + r"\w+)\((.*?)\)(?: -> \w+)?\n",
+    re.MULTILINE | re.DOTALL,
+)
+SLICE, PLACE, NUMBER = (
+    re.compile(r"&(mut )?\[(\w+)\]"),
+    re.compile(r"&mut (\*mut u8|\w+)"),
+    re.compile(r"[iu](?:32|64)|usize"),
+)
 GIVEN = {"Global": "alloc", "*mut u8": "at"}
 HEAD = """
 use std::alloc::Global;
@@ -26,7 +34,6 @@ fn main(rt: HostRuntime) {{
     if sum != 0 {{ let _ = println!(rt; "{{sum}}"); }}
 }}
 """
-
 
 def argument(place, kind):
     """The line before a call that makes this argument, and how the call names it."""
@@ -54,7 +61,8 @@ def caller(module, name, kinds):
     """A function that calls the export."""
     made = [argument(place, kind) for place, kind in enumerate(kinds)]
     before, words = "".join(it for it, _ in made), ", ".join(it for _, it in made)
-    return f"fn call_{name}(alloc: Global, at: *mut u8, n: usize) -> i64 {{ {before}(unsafe {{ crate::{module}::{name}({words}) }}) as i64 }}\n"
+    head = f"fn call_{name}(alloc: Global, at: *mut u8, n: usize) -> i64"
+    return f"{head} {{ {before}(unsafe {{ crate::{module}::{name}({words}) }}) as i64 }}\n"
 
 
 def write_program(folder, to):
@@ -64,14 +72,18 @@ def write_program(folder, to):
     root = f"{to}/src/main.rt"
     os.rename(f"{to}/src/lib.rt", root)
     exports = list(exports_of(folder))
-    calls = "\n".join(f"    if n == {place} {{ sum = sum.wrapping_add(call_{name}(alloc, at, n)); }}" for place, (_, name, _) in enumerate(exports))
+    calls = "\n".join(
+        f"    if n == {place} {{ sum = sum.wrapping_add(call_{name}(alloc, at, n)); }}"
+        for place, (_, name, _) in enumerate(exports)
+    )
     with open(root, "a", encoding="utf-8") as it:
         it.write(HEAD + "".join(caller(*export) for export in exports) + MAIN.format(calls=calls))
     return root
 
 
 def show_exports(text, crate, mark):
-    """The module's text, in LLVM's language, in which a linker sees the crate's exports and the mark, and no `main`."""
+    """The module's text, in LLVM's language, in which a linker sees the crate's exports and the mark, and no `main`.
+    """
     own = rf'@"{crate}::\w+::({PREFIX}\w+)"'
     text = re.sub(rf"^define internal ([^@\n]*{own}\()", r"define \1", text, flags=re.MULTILINE)
     text = re.sub(r"^define (\w+) @main\(", r"define internal \1 @main(", text, flags=re.MULTILINE)

@@ -22,6 +22,7 @@ def of_contexts(rows):
 
 
 def looks(rows, told):
-    """A line for each thing to look at, of the rows of a configuration that is accepted, and of what the program tells of it."""
+    """A line for each thing to look at, of the rows of a configuration that is accepted, and of what the program tells
+    of it."""
     yield from of_program(told)
     yield from of_contexts(rows)

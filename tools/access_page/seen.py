@@ -7,7 +7,9 @@ LEVELS = ["noAuthNoPriv", "authNoPriv", "authPriv"]
 VIEWS = ["read", "write", "notify"]
 ANY = None  # an arc that may be any number
 ANOTHER = -1  # a number that no line has at this place
-LINE = re.compile(r'(?P<level>\w+) (?P<view>\w+) (?P<context>"(?:[^"\\]|\\.)*"|[^ ]+) (?:(?P<sign>[+-]) (?P<subtree>[0-9*.]+)|\w+)')
+LINE = re.compile(
+    r'(?P<level>\w+) (?P<view>\w+) (?P<context>"(?:[^"\\]|\\.)*"|[^ ]+) (?:(?P<sign>[+-]) (?P<subtree>[0-9*.]+)|\w+)'
+)
 
 
 class Line(NamedTuple):
@@ -16,7 +18,8 @@ class Line(NamedTuple):
 
 
 def word(name):
-    """A name as the program prints it; what no eye can see, or what turns the order of writing, is written as \\uXXXX too."""
+    """A name as the program prints it; what no eye can see, or what turns the order of writing, is written as \\uXXXX
+    too."""
     quoted = name in ("", "@") or any(it in " \"'\\" or unicodedata.category(it)[0] in "CZ" for it in name)
     if not quoted:
         return name
@@ -43,7 +46,8 @@ def name_of(printed):
 
 
 def read(text):
-    """The lines of each level, view and context, in their order. Where an answer stands in their place, there are none."""
+    """The lines of each level, view and context, in their order. Where an answer stands in their place, there are
+    none."""
     lines = {}
     for printed in text.split("\n")[:-1]:
         it = LINE.fullmatch(printed)
@@ -51,15 +55,17 @@ def read(text):
             raise ValueError(f"no line that sees prints: {printed}")
         found = lines.setdefault((it["level"], it["view"], name_of(it["context"])), [])
         if it["sign"]:
-            found.append(Line(it["sign"] == "+", tuple(ANY if arc == "*" else int(arc) for arc in it["subtree"].split("."))))
+            found.append(
+                Line(it["sign"] == "+", tuple(ANY if arc == "*" else int(arc) for arc in it["subtree"].split(".")))
+            )
     return lines
 
 
 def extent(lines, area):
     """`all`, `part` or `nothing`: how many of the variables that begin with the arcs of the area the lines include.
 
-    The last line that fits a variable decides on it. All variables are gone through, arc by arc: behind the area an arc is each number that some
-    line has there, or another one, since all others are alike.
+    The last line that fits a variable decides on it. All variables are gone through, arc by arc: behind the area an arc
+    is each number that some line has there, or another one, since all others are alike.
     """
     answers, done = set(), set()
     waiting = [(0, frozenset(range(len(lines))))]
@@ -76,7 +82,9 @@ def extent(lines, area):
         else:
             numbers = (area[place],)
         for number in numbers:
-            waiting.append((place + 1, frozenset(ended + [it for it in longer if lines[it].arcs[place] in (ANY, number)])))
+            waiting.append(
+                (place + 1, frozenset(ended + [it for it in longer if lines[it].arcs[place] in (ANY, number)]))
+            )
     if len(answers) == 2:
         return "part"
     return "all" if True in answers else "nothing"

@@ -15,7 +15,8 @@ class Failing:
         subprocess.run(["cc", "-shared", "-fPIC", "-O2", "-o", self.library, source], check=True)
 
     def run(self, words, seconds=60, **numbers):
-        """What the program did, where the call that is named has failed, as growth=3 names the third growth of memory."""
+        """What the program did, where the call that is named has failed, as growth=3 names the third growth of
+        memory."""
         named = {name.upper(): str(number) for name, number in numbers.items()}
         environment = {**os.environ, "LD_PRELOAD": str(self.library), **named}
         return subprocess.run(words, env=environment, capture_output=True, timeout=seconds)

@@ -25,7 +25,8 @@ def plain(text):
 
 
 class Folder:
-    """The sources of the pages. `docs` has the page of each document, by its path in the repository; `faults` are dead links."""
+    """The sources of the pages. `docs` has the page of each document, by its path in the repository; `faults` are dead
+    links."""
 
     def __init__(self, top, made, docs):
         self.top, self.docs = top, docs
@@ -58,7 +59,9 @@ class Folder:
         there, to = self.top / path, self.extra / "files" / f"{path}.html"
         to.parent.mkdir(parents=True, exist_ok=True)
         if there.is_dir():
-            text = "\n".join(html.escape(it.name) for it in sorted(there.iterdir()) if it.name not in ("out", "__pycache__"))
+            text = "\n".join(
+                html.escape(it.name) for it in sorted(there.iterdir()) if it.name not in ("out", "__pycache__")
+            )
         elif there.stat().st_size > LARGEST or b"\0" in there.read_bytes():
             text = "This file isn't a text that can be shown here."
         else:
@@ -92,4 +95,6 @@ class Folder:
     def with_links(self, page, path, text):
         """The text of a document with its links as they are among the pages."""
         pieces = FENCED.split(text)
-        return "".join(it if n % 2 else LINK.sub(lambda found: self.linked(page, path, found), it) for n, it in enumerate(pieces))
+        return "".join(
+            it if n % 2 else LINK.sub(lambda found: self.linked(page, path, found), it) for n, it in enumerate(pieces)
+        )

@@ -7,7 +7,8 @@ from site_parts.folder import code, plain
 
 MOST_ROWS = 24  # lines of rows that are shown of a test
 LONG = 40  # lines of a function that is folded
-ALONE = "---\norphan: true\n---\n\n"  # the head of a page that isn't in the sidebar: with all rules there, each page would take long
+# the head of a page that isn't in the sidebar: with all rules there, each page would take long
+ALONE = "---\norphan: true\n---\n\n"
 STANDARD = re.compile(r"(RFC \d+|X\.690|FIPS \d+|SP [\w-]+|draft-\S+|IEEE \S+)\s*(.*)")
 NO_CLAUSE = "This function has no clause of its own. A method of a trait has the trait's contract. What others do is shown by tests."
 OPENING = "`./prove` checks that each function below keeps its contract for all inputs. The definitions say what the contract's words mean."
@@ -77,7 +78,11 @@ class Page:
 
     def contract(self, place, clauses):
         """The head of a function with the clauses that the rule is about."""
-        others = [name or "without a name" for kind, name, _ in place.contract if kind == "ensures" and clauses and name not in clauses]
+        others = [
+            name or "without a name"
+            for kind, name, _ in place.contract
+            if kind == "ensures" and clauses and name not in clauses
+        ]
         yield code(textwrap.dedent("\n".join([place.signature, *self.clauses(place, clauses)])), "rust")
         if not place.contract:
             yield f"{NO_CLAUSE}\n"
@@ -126,7 +131,8 @@ class Page:
     def test(self, word):
         """A test: a file, a kind of rows, a transcript or a function."""
         name, _, kind = word.partition(" ")
-        rows, transcript = rules.CRATES / "tests_rows/data" / name, rules.TOP / "tests/cli" / name
+        rows = next((it for it in rules.files_of_rows() if it.name == name), rules.TOP / name)
+        transcript = rules.TOP / "tests/cli" / name
         if rows.is_file() and kind:
             lines = "\n\n".join(rules.rows_of(rows, kind)).split("\n")
             more = f" The first {MOST_ROWS} of {len(lines)} lines:" if len(lines) > MOST_ROWS else ""
@@ -175,7 +181,9 @@ class Page:
 def with_rules(text, crate, slugs):
     """The page of a crate, with a link to the page of each rule under its heading."""
     names = iter(slugs)
-    link = lambda found: f"{found[0]}\n\n[Definition, contract, source, tests and wrong bodies]({crate}/{next(names)}.md)"
+    link = (
+        lambda found: f"{found[0]}\n\n[Definition, contract, source, tests and wrong bodies]({crate}/{next(names)}.md)"
+    )
     return ALONE + re.sub(r"(?m)^## .*$", link, text)
 
 
@@ -189,7 +197,12 @@ def by_section(found):
     for rule, page in found:
         for key in dict.fromkeys(sections_of(rule.section)):
             sections.setdefault(key[0], {}).setdefault(key[1], []).append((rule, page))
-    lines = ["# Rules by section", "", "Each rule under the sections of the standards that it is of. A rule can be under several.", ""]
+    lines = [
+        "# Rules by section",
+        "",
+        "Each rule under the sections of the standards that it is of. A rule can be under several.",
+        "",
+    ]
     named = lambda it: (it == "own", not it.startswith("RFC"), number_of(it.rpartition(" ")[2]))
     for standard in sorted(sections, key=named):
         lines += [f"## {'Of no standard' if standard == 'own' else standard}", ""]

@@ -14,7 +14,7 @@ class Passed(Exception):
 
 
 class Told(Exception):
-    """The record isn't in the log, and is told."""
+    """The record isn't in the log, and is reported."""
 
 
 class OutOfForm(Exception):
@@ -181,7 +181,9 @@ def packets(octets):
                 raise OutOfForm(at)
             interfaces.append(described(order, content))
         elif kind == 6:
-            fields = struct.unpack(order + "IIIII", content[:20]) if len(content) >= 20 else (len(interfaces), 0, 0, 0, 0)
+            fields = (
+                struct.unpack(order + "IIIII", content[:20]) if len(content) >= 20 else (len(interfaces), 0, 0, 0, 0)
+            )
             which, high, low, size, original = fields
             if which >= len(interfaces) or size > min(len(content) - 20, LARGEST):
                 raise OutOfForm(at)
@@ -244,7 +246,9 @@ def framed(link, kind, content):
 def capture(order, magic, link, rows):
     """A capture of these records: the moment, the packet, and how many octets it had."""
     text = struct.pack(order + "IHHiIII", magic, 2, 4, 0, 0, LARGEST, link)
-    return text + b"".join(struct.pack(order + "IIII", moment, 7, len(packet), original) + packet for moment, packet, original in rows)
+    return text + b"".join(
+        struct.pack(order + "IIII", moment, 7, len(packet), original) + packet for moment, packet, original in rows
+    )
 
 
 def block(order, kind, content):
@@ -257,7 +261,8 @@ def option(order, code, value):
 
 
 def section(order, rows):
-    """A section: of each row the interface's place, its time, the packet and how many octets it had, or a block's kind and content."""
+    """A section: of each row the interface's place, its time, the packet and how many octets it had, or a block's kind
+    and content."""
     text = block(order, SECTION, struct.pack(order + "IHHq", MAGIC, 1, 0, -1))
     for row in rows:
         if len(row) == 2:

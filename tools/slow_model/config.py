@@ -32,7 +32,9 @@ def is_mask(value):
 def arcs_of(text):
     """The arcs of an identifier in dotted decimal, or None."""
     words = text.split(".")
-    if len(words) > 128 or not all(ARC.fullmatch(word) and len(word) <= 10 and int(word) <= 0xFFFFFFFF for word in words):
+    if len(words) > 128 or not all(
+        ARC.fullmatch(word) and len(word) <= 10 and int(word) <= 0xFFFFFFFF for word in words
+    ):
         return None
     return [int(word) for word in words]
 
@@ -120,7 +122,9 @@ def read(text):
                 raise RefusedConfig(f"refused config {table} {position} BadKey\n")
     for table in TABLES:
         for position, row in enumerate(rows[table]):
-            fault = (user_fault if table == "user" else lambda row, before: row_fault(table, row, before))(row, rows[table][:position])
+            fault = (user_fault if table == "user" else lambda row, before: row_fault(table, row, before))(
+                row, rows[table][:position]
+            )
             if fault:
                 raise RefusedConfig(f"refused config {table} {position} {fault}\n")
     return rows
@@ -202,7 +206,7 @@ def bad_word(words):
 
 
 def asked(text, words, lines_of):
-    """What is printed where a question is asked, what is told on standard error, and the status."""
+    """What is printed where a question is asked, what is reported on standard error, and the status."""
     bad = bad_word(words)
     if bad:
         return "", f"snmpsec: bad word {bad}\n", 2
@@ -250,7 +254,9 @@ def context_word(name):
 def supports(rows, model, name, level):
     """Whether the name is a user's, and that user has the passwords for the level."""
     user = next((row for row in rows["user"] if row["name"] == name), None)
-    return model == 3 and user is not None and all(key in user for key in ["auth-password", "priv-password"][: level - 1])
+    return (
+        model == 3 and user is not None and all(key in user for key in ["auth-password", "priv-password"][: level - 1])
+    )
 
 
 def names_below(rows, arcs):
@@ -258,7 +264,9 @@ def names_below(rows, arcs):
     subtrees = [arcs_of(row["subtree"]) for row in rows["family"]]
     other = max((max(subtree) for subtree in subtrees), default=0) + 1
     for size in range(len(arcs), max((len(subtree) for subtree in subtrees), default=0) + 1):
-        there = [sorted({subtree[k] for subtree in subtrees if k < len(subtree)} | {other}) for k in range(len(arcs), size)]
+        there = [
+            sorted({subtree[k] for subtree in subtrees if k < len(subtree)} | {other}) for k in range(len(arcs), size)
+        ]
         yield from ([*arcs, *rest] for rest in itertools.product(*there))
 
 
@@ -282,7 +290,10 @@ def who_sees(text, identifier, view=None, only_users=False, is_below=False):
         for context in rows["context"]
         if not only_users or supports(rows, group["model"], group["name"], number)
         if any(
-            explained(rows, group["model"], group["name"].encode(), number, asked_view, context["name"].encode(), name)[0] == "accessAllowed"
+            explained(rows, group["model"], group["name"].encode(), number, asked_view, context["name"].encode(), name)[
+                0
+            ]
+            == "accessAllowed"
             for name in names
         )
     ]
@@ -305,7 +316,9 @@ def needed(rows):
     kept = list(rows)
     for row in rows:
         others = [it for it in kept if it is not row]
-        says = lambda given, arcs: ([it["include"] for it in given if arcs_of(it["subtree"]) == arcs[: len(arcs_of(it["subtree"]))]] or [False])[-1]
+        says = lambda given, arcs: (
+            [it["include"] for it in given if arcs_of(it["subtree"]) == arcs[: len(arcs_of(it["subtree"]))]] or [False]
+        )[-1]
         if all(says(kept, arcs_of(it["subtree"])) == says(others, arcs_of(it["subtree"])) for it in rows):
             kept = others
     return kept
@@ -318,7 +331,10 @@ def seen(rows, model, name, number, view, context):
     families = needed([row for row in rows["family"] if row["view"] == named])
     if lines[0] != "notInView" or not families:
         return lines[:1]
-    return [f"{'+' if row['include'] else '-'} {'.'.join('*' if arc is None else str(arc) for arc in pattern(row))}" for row in families]
+    return [
+        f"{'+' if row['include'] else '-'} {'.'.join('*' if arc is None else str(arc) for arc in pattern(row))}"
+        for row in families
+    ]
 
 
 def sees(text, model, name):

@@ -64,7 +64,9 @@ def schedule(key):
 
 def mixed(column):
     a, b, c, d = column
-    return [doubled(x) ^ doubled(y) ^ y ^ z ^ w for x, y, z, w in ((a, b, c, d), (b, c, d, a), (c, d, a, b), (d, a, b, c))]
+    return [
+        doubled(x) ^ doubled(y) ^ y ^ z ^ w for x, y, z, w in ((a, b, c, d), (b, c, d, a), (c, d, a, b), (d, a, b, c))
+    ]
 
 
 def enciphered(key, block):

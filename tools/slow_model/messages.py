@@ -159,7 +159,9 @@ class Pdu:
         parts.end()
 
     def spelling(self):
-        bindings = [element(0x30, element(0x06, name), element(value.tag, value.content)) for name, _, value in self.bindings]
+        bindings = [
+            element(0x30, element(0x06, name), element(value.tag, value.content)) for name, _, value in self.bindings
+        ]
         return element(self.tag, *map(integer, self.numbers), element(0x30, *bindings))
 
 
@@ -169,7 +171,11 @@ def shown(octets):
 
 def canonical(message, pdu):
     header = element(
-        0x30, integer(message.id), integer(message.max_size), element(0x04, bytes([message.flags & 7])), integer(message.model)
+        0x30,
+        integer(message.id),
+        integer(message.max_size),
+        element(0x04, bytes([message.flags & 7])),
+        integer(message.model),
     )
     data = element(0x04, message.data.content) if pdu is None else message.scoped.spelling(pdu)
     return element(0x30, integer(3), header, element(0x04, message.security.spelling()), data)

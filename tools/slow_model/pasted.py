@@ -5,7 +5,9 @@ from . import captures
 
 PAIR = rb"(?:0[xX]|\\x)?([0-9a-fA-F]{2})"
 PART = re.compile(rb"[ \t\r\n:,\"-]|\\\r?\n|" + PAIR)
-NUMBERS = {number.to_bytes(4, order) for number in (captures.MICROSECONDS, captures.NANOSECONDS) for order in ("big", "little")}
+NUMBERS = {
+    number.to_bytes(4, order) for number in (captures.MICROSECONDS, captures.NANOSECONDS) for order in ("big", "little")
+}
 NUMBERS.add(captures.SECTION.to_bytes(4, "big"))
 
 
