@@ -1,8 +1,9 @@
 /* Asks an agent, or a gateway, on 127.0.0.1 and times its answers: asker PORT MESSAGE SOCKETS MILLISECONDS [MOST]
  *
- * MESSAGE, in hex, is one that is answered as often as it comes. Each of SOCKETS sockets sends it, waits for the answer, and sends it again, so that
- * none has two on their way; one that is lost is sent again after a fifth of a second. It ends after MILLISECONDS, or after MOST answers. It prints how
- * many answers came, in how many seconds, and after how many microseconds the middle one and the 99th of a hundred came. */
+ * MESSAGE, in hex, is one that is answered as often as it comes. Each of SOCKETS sockets sends it, waits for the
+ * answer, and sends it again, so that none has two on their way; one that is lost is sent again after a fifth of a
+ * second. It ends after MILLISECONDS, or after MOST answers. It prints how many answers came, in how many seconds, and
+ * after how many microseconds the middle one and the 99th of a hundred came. */
 #define _GNU_SOURCE
 #include <arpa/inet.h>
 #include <poll.h>
@@ -26,7 +27,8 @@ static double now(void) {
 }
 
 static void begin(int n, const char *port) {
-    struct sockaddr_in to = {.sin_family = AF_INET, .sin_port = htons((uint16_t)atoi(port)), .sin_addr = {htonl(INADDR_LOOPBACK)}};
+    struct sockaddr_in to = {.sin_family = AF_INET, .sin_port = htons((uint16_t)atoi(port)),
+                             .sin_addr = {htonl(INADDR_LOOPBACK)}};
     sockets[n] = (struct pollfd){.fd = socket(AF_INET, SOCK_DGRAM, 0), .events = POLLIN};
     if (sockets[n].fd < 0 || connect(sockets[n].fd, (struct sockaddr *)&to, sizeof to)) { perror("asker"); exit(1); }
 }
@@ -48,14 +50,17 @@ static int compare(const void *a, const void *b) {
     return (one > other) - (one < other);
 }
 
-static double at(size_t part, size_t of) { return answers ? 1e6 * taken[answers * part / of < answers ? answers * part / of : answers - 1] : 0; }
+static double at(size_t part, size_t of) {
+    return answers ? 1e6 * taken[answers * part / of < answers ? answers * part / of : answers - 1] : 0;
+}
 
 int main(int argc, char **argv) {
     if (argc < 5 || argc > 6) return 2;
     int count = atoi(argv[3]);
     size_t most = argc == 6 ? (size_t)atol(argv[5]) : MOST_ANSWERS;
     if (count < 1 || count > MOST_SOCKETS) return 2;
-    while (message_len < sizeof message && sscanf(argv[2] + 2 * message_len, "%2hhx", &message[message_len]) == 1) message_len++;
+    while (message_len < sizeof message && sscanf(argv[2] + 2 * message_len, "%2hhx", &message[message_len]) == 1)
+        message_len++;
     for (int n = 0; n < count; n++) begin(n, argv[1]);
     double begun = now(), end = begun + atof(argv[4]) / 1000;
     for (int n = 0; n < count; n++) ask(n);

@@ -2,10 +2,11 @@
 
    net_snmp_access ROWS WILD MASKS ARCS KIND ASKS
 
-   The rows are those of crates/bench_times (access) of the shape `one`, and so are the questions: ROWS rows of each table, all family rows of one
-   view; each WILDth of them has a wildcard (0: none), with MASKS different masks in turn; a question is for a variable of ARCS arcs, which
-   a row has (`hit`) or none (`miss`). Each question is asked as snmpd asks it: the group of the name, the access row, and the view's row.
-   It prints how many questions were allowed and how many were not in view, and the nanoseconds of the processor that one took. */
+   The rows are those of times.c (access) of the shape `one`, and so are the questions: ROWS rows of each table,
+   all family rows of one view; each WILDth of them has a wildcard (0: none), with MASKS different masks in turn;
+   a question is for a variable of ARCS arcs, which a row has (`hit`) or none (`miss`). Each question is asked as
+   snmpd asks it: the group of the name, the access row, and the view's row. It prints how many questions were
+   allowed and how many were not in view, and the nanoseconds of the processor that one took. */
 #include <net-snmp/net-snmp-config.h>
 #include <net-snmp/net-snmp-includes.h>
 #include <net-snmp/library/vacm.h>
@@ -85,7 +86,8 @@ static int ask(const char *user, const char *context, oid *variable, size_t arcs
     struct vacm_groupEntry *group = vacm_getGroupEntry(MODEL, user);
     if (!group)
         return -1;
-    struct vacm_accessEntry *access = vacm_getAccessEntry(group->groupName + 1, context, MODEL, SNMP_SEC_LEVEL_AUTHPRIV);
+    struct vacm_accessEntry *access =
+        vacm_getAccessEntry(group->groupName + 1, context, MODEL, SNMP_SEC_LEVEL_AUTHPRIV);
     if (!access)
         return -1;
     struct vacm_viewEntry *family = vacm_getViewEntry(access->views[VACM_VIEW_READ], variable, arcs, VACM_MODE_FIND);

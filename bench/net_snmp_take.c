@@ -1,12 +1,13 @@
-/* How long net-snmp takes to read, authenticate and decrypt a message, to answer it, and to write one, for bench/beside-net-snmp.
+/* How long net-snmp takes to read, authenticate and decrypt a message, to answer it, and to write one, for
+ * bench/beside-net-snmp.
 
    net_snmp_take ROLE USER AUTH-PASSWORD PRIV-PASSWORD ENGINE MESSAGE TIMES
 
-   ROLE is `manager`, `agent`, whose own engine is ENGINE, `answer`: an agent that also writes a response with the bindings of the
-   message, `build`: an agent that took the message once and writes the response each time, or `ask`: a manager that took it once and
-   writes a GetRequest with its bindings each time. The message, of SHA-1 and AES, and the engine are in hex. It is parsed TIMES times by
-   snmpv3_parse, with its look at the time, and answered by snmp_build, as snmp_send does; the copy of the message that the parser writes
-   over is made each time.
+   ROLE is `manager`, `agent`, whose own engine is ENGINE, `answer`: an agent that also writes a response with the
+   bindings of the message, `build`: an agent that took the message once and writes the response each time, or `ask`: a
+   manager that took it once and writes a GetRequest with its bindings each time. The message, of SHA-1 and AES, and the
+   engine are in hex. It is parsed TIMES times by snmpv3_parse, with its look at the time, and answered by snmp_build,
+   as snmp_send does; the copy of the message that the parser writes over is made each time.
    It prints the nanoseconds of the processor that a message took. */
 #include <net-snmp/net-snmp-config.h>
 #include <net-snmp/net-snmp-includes.h>
@@ -15,7 +16,8 @@
 #include <string.h>
 #include <time.h>
 
-/* Of the library, and in none of its headers: it writes the message from the end of the room, which it makes larger where it has to. */
+/* Of the library, and in none of its headers: it writes the message from the end of the room, which it makes larger
+ * where it has to. */
 int snmp_build(u_char **packet, size_t *room, size_t *written, netsnmp_session *session, netsnmp_pdu *pdu);
 
 static size_t from_hex(const char *text, u_char *octets)
@@ -102,7 +104,8 @@ static size_t asked(netsnmp_session *session, netsnmp_pdu *pdu)
     return built(session, pdu);
 }
 
-/* Takes the message, and answers it where that is asked for: how many octets the answer has, 1 where there is none, and 0 for a refusal. */
+/* Takes the message, and answers it where that is asked for: how many octets the answer has, 1 where there is none, and
+ * 0 for a refusal. */
 static size_t taken(netsnmp_session *session, const u_char *message, size_t count, u_char *room, Work work)
 {
     netsnmp_pdu *pdu = parsed(session, message, count, room);
@@ -114,7 +117,8 @@ static size_t taken(netsnmp_session *session, const u_char *message, size_t coun
 }
 
 /* Does the work once, on the message or on the PDU that was parsed of it: 0 where it fails. */
-static size_t done(netsnmp_session *session, netsnmp_pdu *pdu, const u_char *message, size_t count, u_char *room, Work work)
+static size_t done(netsnmp_session *session, netsnmp_pdu *pdu, const u_char *message, size_t count, u_char *room,
+                   Work work)
 {
     if (work == WRITES)
         return answered(session, pdu);

@@ -57,7 +57,8 @@ def code(zeroed, engine=ENGINE):
 
 @functools.cache
 def places(text):
-    """Where the code, the salt and the sealed octets of a captured message begin: each is an OCTET STRING behind the user's name."""
+    """Where the code, the salt and the sealed octets of a captured message begin: each is an OCTET STRING behind the
+    user's name."""
     at = text.index(b"oak") + 5
     salt = at + CODE_OCTETS + 2
     sealed = salt + 8
@@ -76,7 +77,7 @@ def decrypted(text):
 
 
 def pdu(text):
-    """The PDU of a captured message: what stands behind the two contexts in its ScopedPDU."""
+    """The PDU of a captured message: what follows the two contexts in its ScopedPDU."""
     scoped = decrypted(text)
     context = element(0x04, ENGINE) + element(0x04)
     return scoped[scoped.index(context) + len(context) :]
@@ -91,7 +92,8 @@ def coded(text, engine=ENGINE):
 
 @functools.cache
 def of_engine(octets, number):
-    """The captured message of this many octets as the engine of this number, from 1 to 255, would have sent it: 1 sent it."""
+    """The captured message of this many octets as the engine of this number, from 1 to 255, would have sent it: 1 sent
+    it."""
     text, engine = captured(octets), ENGINE[:-1] + bytes([number])
     sealing = cipher(text, engine).encryptor()
     sealed = sealing.update(decrypted(text)) + sealing.finalize()
@@ -124,22 +126,44 @@ def with_first_bindings(whole, count):
 
 @functools.cache
 def of_bindings(count):
-    """A message of the engine with so many bindings: the first ones of the longer captured message, of which the other message has one."""
+    """A message of the engine with so many bindings: the first ones of the longer captured message, of which the other
+    message has one."""
     text = captured(2473)
     _, salt, _ = places(text)
     scoped = element(0x30, element(0x04, ENGINE), element(0x04), with_first_bindings(pdu(text), count))
     header = element(0x30, unsigned(3), unsigned(65507), element(0x04, b"\x07"), unsigned(3))
-    fields = [unsigned(BOOTS), unsigned(TIME), element(0x04, b"oak"), element(0x04, bytes(CODE_OCTETS)), element(0x04, text[salt : salt + 8])]
+    fields = [
+        unsigned(BOOTS),
+        unsigned(TIME),
+        element(0x04, b"oak"),
+        element(0x04, bytes(CODE_OCTETS)),
+        element(0x04, text[salt : salt + 8]),
+    ]
     sealing = cipher(text).encryptor()
     sealed = sealing.update(scoped) + sealing.finalize()
-    return coded(element(0x30, unsigned(3), header, element(0x04, element(0x30, element(0x04, ENGINE), *fields)), element(0x04, sealed)))
+    return coded(
+        element(
+            0x30,
+            unsigned(3),
+            header,
+            element(0x04, element(0x30, element(0x04, ENGINE), *fields)),
+            element(0x04, sealed),
+        )
+    )
 
 
 @functools.cache
 def in_the_open(octets):
     """The captured message of this many octets at authNoPriv."""
     header = element(0x30, unsigned(3), unsigned(65507), element(0x04, b"\x01"), unsigned(3))
-    fields = [element(0x04, ENGINE), unsigned(BOOTS), unsigned(TIME), element(0x04, b"oak"), element(0x04, bytes(CODE_OCTETS)), element(0x04)]
+    fields = [
+        element(0x04, ENGINE),
+        unsigned(BOOTS),
+        unsigned(TIME),
+        element(0x04, b"oak"),
+        element(0x04, bytes(CODE_OCTETS)),
+        element(0x04),
+    ]
     return coded(element(0x30, unsigned(3), header, element(0x04, element(0x30, *fields)), decrypted(captured(octets))))
 
 

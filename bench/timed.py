@@ -1,27 +1,43 @@
-"""The program that these scripts time: crates/bench_times, which does a subject's work again and again."""
+"""The program that these scripts time: times.c over the proved archive, which does a subject's work again and again.
+"""
+import atexit
 import os
+import re
 import resource
+import shutil
 import subprocess
 import sys
+import tempfile
 
 TOP = os.path.dirname(os.path.dirname(os.path.abspath(__file__)))
-NAME = "bench_times"
+ARCHIVE = f"{TOP}/crates/snmp_c/out/libsnmp_c.a"
 
 
-def crate_of(top):
-    return os.path.join(top, "crates", NAME)
+def library_sources():
+    """The C of the library, as lib/CMakeLists.txt lists it."""
+    with open(f"{TOP}/lib/CMakeLists.txt", encoding="utf-8") as listed:
+        return [
+            f"{TOP}/lib/{it}"
+            for it in re.search(r"^set\(library_sources (.*)\)$", listed.read(), re.MULTILINE)[1].split()
+        ]
 
 
-def build(*run, top=TOP):
-    """Proves and builds the program of a tree where it is out of date, tries this run of it, and answers its path."""
-    words = ["rt", "run", "--", *map(str, run)]
-    program = os.path.join(crate_of(top), "out", NAME)
-    try:
-        ran = subprocess.run(words, cwd=crate_of(top), stdin=subprocess.DEVNULL, capture_output=True, text=True)
-    except FileNotFoundError:
-        sys.exit(f"{sys.argv[0]}: no command rt")
-    if ran.returncode != 0 or not os.path.exists(program):
-        sys.exit(f"{sys.argv[0]}: crates/{NAME} is not built\n{ran.stdout}{ran.stderr}")
+def build(*run):
+    """Proves and builds the archive where it is out of date, compiles the program over it, tries this run of it, and
+    answers its path."""
+    ran = subprocess.run(
+        [f"{TOP}/tools/build", "snmp_c"], cwd=TOP, stdin=subprocess.DEVNULL, capture_output=True, text=True
+    )
+    if ran.returncode:
+        sys.exit(f"{sys.argv[0]}: the archive is not built\n{ran.stdout}{ran.stderr}")
+    room = tempfile.mkdtemp(prefix="times-")
+    atexit.register(shutil.rmtree, room)
+    program = f"{room}/times"
+    flags = ["-std=gnu11", "-O2", f"-I{TOP}/lib/include", "-o", program]
+    subprocess.run(
+        [os.environ.get("CC", "cc"), *flags, f"{TOP}/bench/times.c", *library_sources(), ARCHIVE], check=True
+    )
+    line_of(program, *run)
     return program
 
 

@@ -1,4 +1,4 @@
-//! Captures and pasted texts that are read and written by readers and writers that are interrupted or fail.
+//! Captures of which what is read is written by writers that fail.
 
 use super::streams::{Calls, Choppy, Slow};
 use capture_datagrams::datagrams::Unread;
@@ -29,12 +29,6 @@ const LOG: &[u8] = b"1700000000 3003020103\n1700000002 3003020103\n";
 /// What is reported of it.
 const NOTES: &[u8] = b"snmpsec: record 2: fragment\nsnmpsec: passed over: another port 1\n";
 
-/// The log of its first record.
-const FIRST: &[u8] = b"1700000000 3003020103\n";
-
-/// What is reported of its second record.
-const TOLD: &[u8] = b"snmpsec: record 2: fragment\n";
-
 /// Returns an answer, and out of memory as an error of its own.
 fn without_memory_faults(answer: Result<u8, Unread>) -> Result<Result<u8, Unread>, AllocError> {
     if answer == Err(Unread::OutOfMemory) {
@@ -63,26 +57,6 @@ fn read_capture(
 const SNMP: [u16; 2] = [161, 162];
 
 #[test]
-fn a_capture_is_read_octet_by_octet(rt: HostRuntime) -> Result<(), Fail> {
-    for (reads, writes, wanted) in [
-        (0, 0, Ok(0)),
-        (1, 1, Ok(0)),
-        (999, 0, Ok(0)),
-        (0, 999, Ok(0)),
-        (1000, 0, Err(Unread::CannotRead)),
-        (0, 1000, Err(Unread::CannotWrite)),
-    ] {
-        let mut reader = Slow::new(CAPTURE, Calls::interrupted(reads));
-        let mut log = Choppy::new(LOG, Calls::interrupted(writes));
-        let mut notes = Choppy::new(NOTES, Calls::GOOD);
-        let answer = read_capture(rt.alloc(), &SNMP, &mut reader, &mut log, &mut notes)?;
-        let is_all = log.has_all() && notes.has_all();
-        assert!(rt; answer == wanted && is_all == wanted.is_ok());
-    }
-    Ok(())
-}
-
-#[test]
 fn without_ports_no_datagram_is_logged(rt: HostRuntime) -> Result<(), Fail> {
     let told = b"snmpsec: record 2: fragment\nsnmpsec: passed over: another port 3\n";
     let mut reader = Slow::new(CAPTURE, Calls::GOOD);
@@ -90,30 +64,6 @@ fn without_ports_no_datagram_is_logged(rt: HostRuntime) -> Result<(), Fail> {
     let mut notes = Choppy::new(told, Calls::GOOD);
     let answer = read_capture(rt.alloc(), &[], &mut reader, &mut log, &mut notes)?;
     assert!(rt; answer == Ok(0) && log.has_all() && notes.has_all());
-    Ok(())
-}
-
-/// What is written and told of the records that come before this read of an octet.
-fn before(read: u32) -> (&'static [u8], &'static [u8]) {
-    let log = match read {
-        0..87 => b"".as_slice(),
-        87..276 => FIRST,
-        _ => LOG,
-    };
-    (log, if read < 150 { b"" } else { TOLD })
-}
-
-#[test]
-fn a_read_that_fails_leaves_the_records_before(rt: HostRuntime) -> Result<(), Fail> {
-    for read in 0..277 {
-        let (written, told) = before(read);
-        let mut reader = Slow::new(CAPTURE, Calls::failing(read));
-        let mut log = Choppy::new(written, Calls::GOOD);
-        let mut notes = Choppy::new(told, Calls::GOOD);
-        let answer = read_capture(rt.alloc(), &SNMP, &mut reader, &mut log, &mut notes)?;
-        let is_all = log.has_all() && notes.has_all();
-        assert!(rt; answer == Err(Unread::CannotRead) && is_all, "read {read}");
-    }
     Ok(())
 }
 
@@ -190,14 +140,12 @@ refused 1 NotMessage at 5
 ";
 
 /// Asks for the datagrams of port 161 of the file `f`, at the timestamp 7.
-const fn asked(form: Option<Form>) -> ReadOptions<'static> {
-    ReadOptions {
-        form,
-        moment: 7,
-        ports: &[161],
-        name: "f",
-    }
-}
+const ASKED: ReadOptions<'static> = ReadOptions {
+    form: None,
+    moment: 7,
+    ports: &[161],
+    name: "f",
+};
 
 /// Shows the datagrams of the file `f`, which is read an octet a read.
 fn show(
@@ -207,7 +155,7 @@ fn show(
     notes: &mut Choppy<'_>,
 ) -> Result<Result<u8, Unread>, AllocError> {
     let shown = Printout::Shown { names: false };
-    without_memory_faults(write_printout(alloc, shown, asked(None), reader, out, notes))
+    without_memory_faults(write_printout(alloc, shown, ASKED, reader, out, notes))
 }
 
 const PASSED_OVER: &[u8] = b"snmpsec: passed over: another port 1\n";
@@ -220,68 +168,6 @@ fn a_write_that_fails_leaves_the_beginning_of_what_is_shown(rt: HostRuntime) -> 
         let mut notes = Choppy::new(PASSED_OVER, Calls::GOOD);
         let answer = show(rt.alloc(), &mut reader, &mut out, &mut notes)?;
         assert!(rt; answer == Err(Unread::CannotWrite) && out.has_beginning());
-    }
-    Ok(())
-}
-
-#[test]
-fn what_is_shown_is_read_octet_by_octet(rt: HostRuntime) -> Result<(), Fail> {
-    let mut reader = Slow::new(MESSAGES, Calls::interrupted(1));
-    let mut out = Choppy::new(SHOWN, Calls::interrupted(1));
-    let mut notes = Choppy::new(PASSED_OVER, Calls::GOOD);
-    let answer = show(rt.alloc(), &mut reader, &mut out, &mut notes)?;
-    assert!(rt; answer == Ok(1) && out.has_all() && notes.has_all());
-    Ok(())
-}
-
-/// Texts of each form, and what is reported of each. The log of each is the same.
-static TEXTS: [(Option<Form>, &[u8], &[u8]); 4] = [
-    (None, b"30 03\n02 01 03\n", b""),
-    (Some(Form::Hex), b"0x30,0x03, \\x02\\x01 03", b""),
-    (None, b"$ od -tx1 f\n0000000 30 03 02 01 03\n0000005\n", b""),
-    (
-        Some(Form::Packets),
-        b"0000  45 00 00 21 00 07 00 00 40 11 f6 c1 c0 00 02 01 c0 00 02 02
-0014  9c 40 00 a1 00 0d a9 ea 30 03 02 01 03
-
-0000 30
-",
-        b"snmpsec: passed over: not IP 1\n",
-    ),
-];
-
-/// Reads a pasted text.
-fn read_text(
-    alloc: Global,
-    form: Option<Form>,
-    reader: &mut Slow<'_>,
-    log: &mut Choppy<'_>,
-    notes: &mut Choppy<'_>,
-) -> Result<Result<u8, Unread>, AllocError> {
-    without_memory_faults(datagrams_of(alloc, asked(form), reader, log, notes))
-}
-
-#[test]
-fn pasted_texts_are_read_octet_by_octet(rt: HostRuntime) -> Result<(), Fail> {
-    for (form, text, told) in TEXTS.iter() {
-        let mut reader = Slow::new(text, Calls::interrupted(1));
-        let mut log = Choppy::new(b"7 3003020103\n", Calls::interrupted(1));
-        let mut notes = Choppy::new(told, Calls::GOOD);
-        let answer = read_text(rt.alloc(), *form, &mut reader, &mut log, &mut notes)?;
-        assert!(rt; answer == Ok(0) && log.has_all() && notes.has_all());
-    }
-    Ok(())
-}
-
-#[test]
-fn a_text_whose_read_fails_has_no_log(rt: HostRuntime) -> Result<(), Fail> {
-    for read in 0..15 {
-        let mut reader = Slow::new(b"30 03\n02 01 03\n", Calls::failing(read));
-        let mut log = Choppy::new(b"", Calls::GOOD);
-        let mut notes = Choppy::new(b"", Calls::GOOD);
-        let answer = read_text(rt.alloc(), None, &mut reader, &mut log, &mut notes)?;
-        let is_all = log.has_all() && notes.has_all();
-        assert!(rt; answer == Err(Unread::CannotRead) && is_all, "read {read}");
     }
     Ok(())
 }

@@ -102,7 +102,6 @@ impl Read for Slow<'_> {
 #[derive(Drop)]
 pub(super) struct Choppy<'a> {
     wanted: &'a [u8],
-    taken: usize,
     is_other: bool,
     progress: Progress,
 }
@@ -111,7 +110,6 @@ impl<'a> Choppy<'a> {
     pub(super) fn new(wanted: &'a [u8], calls: Calls) -> Choppy<'a> {
         Choppy {
             wanted,
-            taken: 0,
             is_other: false,
             progress: Progress::new(calls),
         }
@@ -120,11 +118,6 @@ impl<'a> Choppy<'a> {
     /// Whether all that is to be written was, and nothing else.
     pub(super) fn has_all(&self) -> bool {
         !self.is_other && self.wanted.is_empty()
-    }
-
-    /// Whether nothing was written.
-    pub(super) fn has_nothing(&self) -> bool {
-        self.taken == 0
     }
 
     /// Whether the beginning of what is to be written was, and nothing else.
@@ -137,7 +130,6 @@ impl Write for Choppy<'_> {
     fn write(&mut self, buf: &[u8]) -> io::Result<usize> {
         self.progress.next()?;
         let most = buf.len().min(3);
-        self.taken = self.taken.saturating_add(most);
         match self.wanted.strip_prefix(&buf[..most]) {
             Some(rest) => self.wanted = rest,
             None => self.is_other = true,

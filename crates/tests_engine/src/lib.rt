@@ -1,11 +1,8 @@
-//! What a refused growth of memory leaves, in each library, an example of each library, and ten thousand
-//! texts sealed and opened.
+//! What a refused growth of memory leaves, in each library, and an example of each library.
 #![tactic(auto)]
 
 #[cfg(test)]
 mod access;
-#[cfg(test)]
-mod aes;
 #[cfg(test)]
 mod agent;
 #[cfg(test)]
@@ -17,11 +14,7 @@ mod elements;
 #[cfg(test)]
 mod examples;
 #[cfg(test)]
-mod handles;
-#[cfg(test)]
 mod manager;
-#[cfg(test)]
-mod replay;
 #[cfg(test)]
 mod users;
 #[cfg(test)]

@@ -1,16 +1,25 @@
-//! Compares what the libraries answer with rows of data: `tests_rows FILE..`.
+//! Compares with rows of data what is answered of the libraries by no export for C and by no command:
+//! `tests_rows FILE..`.
 //!
-//! `tests_messages` has the form of a row. The program prints each row that is answered in another way, and
-//! how many rows of each file passed. Its status is 1 if a row failed, and 2 if a file can't be read or a row
-//! can't be understood.
+//! Most rows of data are asked of the library and the program by `lib/tests/rows`. Its `rows.h` has the form of a row.
+//! The program prints each row that is answered in another way, and how many rows of each file passed. Its status is 1
+//! if a row failed, and 2 if a file can't be read or a row can't be understood.
 #![tactic(auto)]
 
+mod ber;
+mod device;
+mod octets;
+mod row;
+mod rows;
+mod shown;
+mod subjects;
+mod walk;
+
+use crate::rows::{Count, check_named};
 use anyhow::{Error, ensure};
 use std::env;
 use std::process::ExitCode;
 use std::rt::{Env, Files};
-use tests_gateway::Gateways;
-use tests_subjects::{Count, check_file, check_named};
 
 /// Checks the rows of a file by the subject of its name, which is what is after the last slash.
 fn check<R: Files + Print + AllocGlobal>(rt: &R, file: &str) -> Result<Count, Error> {
@@ -18,10 +27,7 @@ fn check<R: Files + Print + AllocGlobal>(rt: &R, file: &str) -> Result<Count, Er
         Some((_, name)) => name,
         None => file,
     };
-    match name {
-        "gate.rows" | "gate_devices.rows" => check_file::<R, Gateways>(rt, file),
-        _ => check_named(rt, file, name),
-    }
+    check_named(rt, file, name)
 }
 
 /// Checks the files that the arguments name. Gives whether each row passed.
