@@ -8,13 +8,13 @@ The last answer has no request.
       window not judged: nothing is known of the engine's clock yet
       answered after 1.0 ms: 1.3.6.1.2.1.1.5.0 = STRING "router"
   3  22:13:21.000000  10.0.0.9:40001 > 10.0.0.5:161  una authNoPriv  Get 1.3.6.1.2.1.1.5.0
-      refused by the agent after 1.0 ms: usmStatsUnsupportedSecLevels is 1
+      refused by the agent after 1.0 ms, without authentication: usmStatsUnsupportedSecLevels is 1
       UnknownUser: no user of this name is in this configuration; a hash or a cipher that isn't known here keeps one out
   5  22:13:22.000000  10.0.0.9:40001 > 10.0.0.5:161  bob authPriv  sealed (its direction is a guess)
-      refused by the agent after 1.0 ms: usmStatsDecryptionErrors is 1
+      refused by the agent after 1.0 ms, without authentication: usmStatsDecryptionErrors is 1
       DecryptionError: the salt hasn't 8 octets: the sender is at fault
   7  22:13:23.000000  10.0.0.9:40001 > 10.0.0.5:161  bob authPriv  sealed (its direction is a guess)
-      refused by the agent after 1.0 ms: usmStatsDecryptionErrors is 2
+      refused by the agent after 1.0 ms, without authentication: usmStatsDecryptionErrors is 2
       BadScoped: the privacy password or the cipher of the user in this configuration isn't the sender's
   9  22:13:24.000000  10.0.0.9:40001 > 10.0.0.5:161  eve authPriv  sealed (its direction is a guess)
       answered after 1.0 ms; the answer isn't read
@@ -68,6 +68,7 @@ The answer to 17 comes from another address. The last record is a fragment.
 
   $ awk 'BEGIN { for (i = 0; i < 100000; i++) printf "5 303b02010330110204%08x020300ffe30401040201030410300e0400020100020100040004000400301104000400a00b0201010201000201003000\n", 16777216 + i }' > many
   $ snmpsec diagnose "$TOP/examples/no-answer.toml" many > told
+  [1]
   $ grep -c 'not followed further: over 65536 exchanges wait' told
   34464
   $ grep -c 'no answer in the capture' told

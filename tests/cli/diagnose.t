@@ -17,10 +17,10 @@ the answer to the same msgID goes to another port. 26 is a copy of 3, ten minute
   7  22:13:26.000000  10.0.0.9:40001 > 10.0.0.5:161  bob authNoPriv  Get 1.3.6.1.2.1.1.1.0
       answered after 0.7 ms: 1.3.6.1.2.1.1.1.0 = STRING "a router"
   9  22:13:30.000000  10.0.0.9:40001 > 10.0.0.5:161  bob authNoPriv  Get 1.3.6.1.2.1.1.5.0
-      refused by the agent after 0.3 ms: usmStatsWrongDigests is 4
+      refused by the agent after 0.3 ms, without authentication: usmStatsWrongDigests is 4
       WrongDigest: the password or the hash of the user in this configuration isn't the sender's
   11  22:13:31.000000  10.0.0.9:40001 > 10.0.0.5:161  eve authNoPriv  Get 1.3.6.1.2.1.1.5.0
-      refused by the agent after 0.2 ms: usmStatsUnknownUserNames is 2
+      refused by the agent after 0.2 ms, without authentication: usmStatsUnknownUserNames is 2
       UnknownUser: no user of this name is in this configuration; a hash or a cipher that isn't known here keeps one out
   13  22:13:32.000000  10.0.0.9:40001 > 10.0.0.5:161  bob authNoPriv  Set 1.3.6.1.2.1.1.4.0
       answered after 0.9 ms: error authorizationError at 1
@@ -164,8 +164,11 @@ Both ends have this address: it is a guess. Exchanges with other agents are neit
   summary
     ann  answered 1, errors 0, refused 0, no answer 0
     engine 80001f88046e6d73  boots 1, time 50 at 22:13:51; agent [2001:db8::9]:162
-  $ snmpsec diagnose --agent 10.0.0.5:162 "$TOP/examples/no-answer.toml" "$TOP/examples/diagnose.pcap"
+  $ cp "$TOP/examples/diagnose.pcap" .
+  $ snmpsec diagnose --agent 10.0.0.5:162 "$TOP/examples/no-answer.toml" diagnose.pcap
   summary
+  ! snmpsec: diagnose.pcap: no exchange that is wanted; the users there: bob, eve, ann; the agents there: 10.0.0.5:161, [2001:db8::9]:162
+  [2]
 
 An agent is no name, and its port is a number.
 

@@ -212,3 +212,31 @@ Arguments and configurations are refused as by `check-access`.
   $ snmpsec explain-access broken 3 ann authPriv read @ 1
   refused config top
   [1]
+
+Names of groups and views are printed as one piece of ASCII. So none of them makes a line of its own, and no control
+character reaches the terminal.
+
+  $ cat > names <<'END'
+  > context = [{ name = '' }]
+  > group = [{ model = 3, name = "\u202Eann\u0085\U0001F600", group = "g\u001B[2J" }]
+  > [[access]]
+  > group = "g\u001B[2J"
+  > prefix = ''
+  > model = 3
+  > level = 'authPriv'
+  > match = 'exact'
+  > read = "v\nfamily 9"
+  > [[family]]
+  > view = "v\nfamily 9"
+  > subtree = '1.3'
+  > include = true
+  > END
+  $ snmpsec explain-access names 3 "$(printf '\342\200\256ann\302\205\360\237\230\200')" authPriv read @ 1.3.6
+  accessAllowed
+  context 0
+  group 0 "g\u001B[2J"
+  access 0
+  view "v\u000Afamily 9"
+  family 0
+  $ snmpsec who-sees names 1.3.6
+  3 "\u202Eann\u0085\U0001F600" authPriv read @

@@ -33,6 +33,14 @@ A file that isn't there has a note. With `--no-include` none is opened.
   ! f:1: left out: includeFile: not followed: name the files on the command line
   context: context name=""
 
+A FIFO isn't opened, since nobody may ever write to it. It has the same note.
+
+  $ mkfifo fifo
+  $ echo 'includeFile fifo' > f
+  $ timeout 20 snmpsec import-snmpd f | rows
+  ! f:1: refused by snmpd: includeFile: can't be read
+  context: context name=""
+
 Of a word that is no directive's only what could be one is shown: a file may be named by mistake that holds secrets.
 
   $ echo 'includeFile shadow' > f

@@ -25,7 +25,7 @@ A line that is none ends it, after what came before.
   $ snmpsec diagnose --json "$config" odd | grep refused
   ! snmpsec: line 2: HEX "30f": its 3 digits are an odd number
   {"refused_datagrams":{"column":null,"file":"odd","line":2,"octet":null}}
-  {"counts":false,"ending":{"kind":"no answer"},"request":{"copy_of":null,"datagram":1,"engine":null,"from":null,"level":"noAuthNoPriv","microseconds":0,"refused":null,"remark":"","retransmission_of":null,"seconds":1795405908,"time":"03:51:48.000000","to":null,"user":"","what":{"kind":"discovery"}}}
+  {"counts":false,"ending":{"kind":"no answer"},"request":{"copy_of":null,"datagram":1,"engine":null,"from":null,"level":"noAuthNoPriv","microseconds":0,"refused":null,"remark":"","retransmission_of":null,"seconds":1795405908,"time":"03:51:48.000000","to":null,"user":"\"\"","what":{"kind":"discovery"}}}
   $ printf '5 3005' | snmpsec datagrams -
   refused datagrams - line 1
   ! snmpsec: line 1: it has no line feed at its end

@@ -68,7 +68,7 @@ A name is quoted as TOML quotes it.
   auth -
   privacy -
   context-engine -
-  context 22c3a9 # "\\"\xc3\xa9" (esc)
+  context 22c3a9 # "\"\u00E9"
   pdu a0 1 0 0 # GetRequest
   canonical 303c020103300e020101020300ffe30401040201030411300f04000201000201000401610400040030140400040322c3a9a00b0201010201000201003000
 

@@ -88,5 +88,8 @@ A `-` that is no file is none of them.
   $ snmpsec check-access - 3 - authPriv read - 1.3.6.1.2.1.1.5.0 < "$access"
   noSuchContext
   [1]
-  $ snmpsec diagnose --user - "$TOP/examples/no-answer.toml" - < "$capture" | head -n 1
+  $ snmpsec diagnose --user - "$TOP/examples/no-answer.toml" - < "$capture" > printed
+  ! snmpsec: -: no exchange that is wanted; the users there: bob, eve, ann; the agents there: 10.0.0.5:161, [2001:db8::9]:162
+  [2]
+  $ head -n 1 printed
   summary

@@ -37,10 +37,10 @@ password, one or two.
 A name is quoted if it is empty, has a blank, a quote or a control character, or is `@`.
 
   $ snmpsec who-sees names 1.3 read
-  3 "\\"\\\\'\\u007F\\u0001\\u001F\xc3\xa9" noAuthNoPriv read "@" (esc)
-  3 "\\"\\\\'\\u007F\\u0001\\u001F\xc3\xa9" noAuthNoPriv read @ (esc)
-  3 "\\"\\\\'\\u007F\\u0001\\u001F\xc3\xa9" authNoPriv read "@" (esc)
-  3 "\\"\\\\'\\u007F\\u0001\\u001F\xc3\xa9" authPriv read "@" (esc)
+  3 "\"\\'\u007F\u0001\u001F\u00E9" noAuthNoPriv read "@"
+  3 "\"\\'\u007F\u0001\u001F\u00E9" noAuthNoPriv read @
+  3 "\"\\'\u007F\u0001\u001F\u00E9" authNoPriv read "@"
+  3 "\"\\'\u007F\u0001\u001F\u00E9" authPriv read "@"
   3 "a b" noAuthNoPriv read "@"
   3 "a b" noAuthNoPriv read @
   3 "a b" authNoPriv read "@"
@@ -74,8 +74,8 @@ One name has a write view.
 The notify view is for one context.
 
   $ snmpsec who-sees names 1 notify
-  3 "\\"\\\\'\\u007F\\u0001\\u001F\xc3\xa9" authNoPriv notify @ (esc)
-  3 "\\"\\\\'\\u007F\\u0001\\u001F\xc3\xa9" authPriv notify @ (esc)
+  3 "\"\\'\u007F\u0001\u001F\u00E9" authNoPriv notify @
+  3 "\"\\'\u007F\u0001\u001F\u00E9" authPriv notify @
   3 "a b" authNoPriv notify @
   3 "a b" authPriv notify @
   3 "@" authNoPriv notify @

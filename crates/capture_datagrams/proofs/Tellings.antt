@@ -1,4 +1,4 @@
--- What is told of a capture: the last line, and the ports that are asked for.
+-- What is reported of a capture: the last line, and the ports that are asked for.
 use Rattle.std.proofs.Common.{◌≡◌, ℕ, ◌<◌, ◌≤◌, ◌^◌, zero, suc, List, [], ◌∷◌, ◌++◌, length, take, drop, map, decimal, codes, Option, slice_index_or, refl, sym, ap, ◌∙◌, arith, subst, inl, inr}
 use Rattle.std.specs.List.{All}
 use Rattle.std.specs.Io.KnownBytes.{Appends, Consumes, IsAtEnd}

@@ -73,7 +73,7 @@ pub record IsWhole (P : Printing) (ports : List ℕ) (s : Streams) (passed : Cou
       (λ capture. (lines : List ℕ) × (tells : List ℕ) × IsLogOf P ports capture lines tells passed
       × Appends s.held s.written lines × Appends s.untold s.told tells)
 
--- What a capture comes to is written, as far as it is one. Then these lines are due, the one in the log and
+-- What results from a capture is written, as far as it is one. Then these lines are due, the one in the log and
 -- the other beside it.
 abbrev pub Leaves : Printing → List ℕ → List ℕ → Streams → ℕ → List ℕ → List ℕ → Type 0
 Leaves P ports name s status in_log beside =
@@ -82,7 +82,7 @@ Leaves P ports name s status in_log beside =
     ⊎ ((status ≡ 1) × (place : ℕ) × StopsBy P ports s (capture.Octet place) × (in_log ≡ refused_line name place)
     × (beside ≡ []))
 
--- What a capture comes to is written, as far as it is one, and no line behind it.
+-- What results from a capture is written, as far as it is one, and no line behind it.
 pub record LeavesUntold (P : Printing) (ports : List ℕ) (s : Streams) : Type 0 where
   pub written : Option (List ℕ)
   pub told : Option (List ℕ)
@@ -91,7 +91,7 @@ pub record LeavesUntold (P : Printing) (ports : List ℕ) (s : Streams) : Type 0
   pub wrote : Keeps written s.written
   pub tells : Keeps told s.told
 
--- What a capture comes to is written as far as it is one, of the last line in the log what `Writes` says, and
+-- What results from a capture is written as far as it is one, of the last line in the log what `Writes` says, and
 -- of that beside it what `TellsLine` says.
 pub record Ends (P : Printing) (ports name : List ℕ) (s : Streams)
     (Writes TellsLine : Option (List ℕ) → Option (List ℕ) → List ℕ → Type 0) (status : ℕ) : Type 0 where

@@ -85,7 +85,7 @@ begins_octets text = nat_le 1 (blanks text) && begins_pair (drop (blanks text) t
 abbrev pub begins_behind : List ℕ → Bool
 begins_behind text = begins_octets (drop (colon_size text) text)
 
--- the offset, and what stands behind it
+-- the offset, and what follows it
 abbrev pub begins_offset : List ℕ → Bool
 begins_offset text = nat_le 4 (zeros text) && (nat_le (zeros text) 8 && begins_behind (drop (zeros text) text))
 

@@ -24,7 +24,7 @@ pub data Kind : Type 0 where
   words : Kind
   bad : Kind
 
--- ---- what stands behind an offset
+-- ---- what follows an offset
 
 abbrev pub word_size : List ℕ → ℕ
 word_size text = prefix_len (λ c. not (is_blank c)) text

@@ -5,7 +5,7 @@ use Rattle.std.specs.List.{list_all, prefix_len}
 use Rattle.capture_dumps.specs.Dump.{is_blank, is_digit, is_zero, blanks, prefix_size, colon_size}
 use Rattle.capture_dumps.specs.declared.offset.Offset.{Offset as OffsetRead}
 
--- an offset, whether a colon stands behind it, and what stands behind that
+-- an offset, whether a colon follows it, and what follows that
 pub record Offset : Type 0 where
   pub digits : List ℕ
   pub colon : Bool
@@ -18,7 +18,7 @@ digit_count text = prefix_len is_digit text
 abbrev pub stands_apart : List ℕ → Bool
 stands_apart text = (length text == 0) || is_blank (slice_index text 0)
 
--- what stands behind so many digits
+-- what follows so many digits
 abbrev pub behind_digits : ℕ → List ℕ → Option Offset
 behind_digits count text =
     let behind = drop count text in

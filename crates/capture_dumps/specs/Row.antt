@@ -40,7 +40,7 @@ abbrev pub goes_on : Option Reads → Option Reads
 goes_on None = None
 goes_on (Some reads) = one_more reads.0 (next_pair reads.1)
 
--- the octets of so many pairs at the beginning of the text, and what stands behind them
+-- the octets of so many pairs at the beginning of the text, and what follows them
 abbrev pub reads : ℕ → List ℕ → Option Reads
 reads zero text = Some ([], text)
 reads (suc n) text = goes_on (reads n text)

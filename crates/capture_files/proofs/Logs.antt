@@ -173,7 +173,7 @@ reads_record {P = P} {ports = ports} {n = n} {passed = passed} w left' written' 
       tells = Appends-trans _ _ _ _ _ w.tells wr.tells;
     }
 
--- an item was read, and what it comes to is written
+-- an item was read, and what it becomes is written
 pub reads_item : {P : Printing} {ports : List ℕ} {s : State} {unread left held written untold told : Option (List ℕ)} {begin n place : ℕ} {now : State} {passed : Counts}
     → Stands P ports s (streams unread left held written untold told) (IsBefore begin n place now) passed
     → (left' written' told' : Option (List ℕ)) (octets : List ℕ) (x : Option Record) (t : State) (next : ℕ) (after : Counts) (place' : ℕ)
@@ -250,7 +250,7 @@ stops_record {passed = passed} w left' written' told' octets r t is consumes fau
   },
 )
 
--- an item was read, and writing what it comes to stopped
+-- an item was read, and writing what it becomes stopped
 pub stops_item : {P : Printing} {ports : List ℕ} {s : State} {unread left held written untold told : Option (List ℕ)} {begin n place : ℕ} {now : State} {passed : Counts}
     → Stands P ports s (streams unread left held written untold told) (IsBefore begin n place now) passed
     → (left' written' told' : Option (List ℕ)) (octets : List ℕ) (x : Option Record) (t : State)

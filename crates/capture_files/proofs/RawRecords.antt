@@ -13,7 +13,7 @@ use Rattle.capture_files.proofs.Logs.{sorts_more}
 abbrev of_size : ℕ → List ℕ → ℕ → Record
 of_size moment packet size = record { link = 101; moment = Some moment; packet = packet; original = size }
 
--- a packet is whole, however its length is told, where that is at most its octets
+-- a packet is whole, however its length is reported, where that is at most its octets
 pub as_packet : (P : Printing) (ports : List ℕ) (moment number size : ℕ) (packet : List ℕ) (before after : Counts) (held written untold told : Option (List ℕ)) → size ≤ length packet
     → WritesRecord P ports (of_size moment packet size) number before after held written untold told → WritesRecord P ports (packet_record moment packet) number before after held written untold told
 as_packet P ports moment number size packet before after held written untold told within w =

@@ -1,10 +1,10 @@
 -- The log of a capture: a text for each datagram, in the order of the records, a line or another. Each other
--- record is told in a line of its own, or counted by its reason.
+-- record is reported in a line of its own, or counted by its reason.
 --
 -- `IsLogOf ports capture log notes passed`. The capture is a beginning and items; each record of them in
--- order is a line of the log, or a line of what is told, or one more of a reason (`Sorts`, by
+-- order is a line of the log, or a line of what is reported, or one more of a reason (`Sorts`, by
 -- `IsSortedRecord`). `StopsBy`: what was read and written where it stops with a fault; `IsBad`: what begins
--- there is no item. `StopsWriting`: of the log or of what is told an end isn't written.
+-- there is no item. `StopsWriting`: of the log or of what is reported an end isn't written.
 use Rattle.std.specs.Prelude.{◌≡◌, ◌⊎◌, ℕ, ◌+◌, ◌<◌, ◌≤◌, ◌==◌, ◌||◌, nat_le, Bool, true, false, List, [], ◌∷◌, ◌++◌}
 use Rattle.std.specs.Prelude.{length, codes, Option, Some, None, decimal}
 use Rattle.std.specs.List.{list_any}
@@ -52,7 +52,7 @@ IsSorted ports link moment found.NotUdp s = s ≡ Counted reason.NotUdp
 IsSorted ports link moment found.NotIp s = s ≡ Counted reason.NotIp
 IsSorted ports link moment found.OtherLink s = s ≡ Counted (reason.OtherLink link)
 
--- a record is told that has no moment, and is else what is found in its packet
+-- a record is reported that has no moment, and is else what is found in its packet
 abbrev pub IsSortedAt : Option ℕ → List ℕ → Record → Sorted → Type 0
 IsSortedAt None ports r s = s ≡ Told telling.NoMoment
 IsSortedAt (Some moment) ports r s = (f : Found) × IsFound r.link r.packet (nat_le r.original (length r.packet)) f
@@ -101,7 +101,7 @@ PrintsRecord P n (Logged moment datagram) text refused = P (n + 1) moment datagr
 PrintsRecord P n (Told why) text refused = (text ≡ []) × (refused ≡ false)
 PrintsRecord P n (Counted why) text refused = (text ≡ []) × (refused ≡ false)
 
--- what record n adds to what is told
+-- what record n adds to what is reported
 abbrev pub note_of : ℕ → Sorted → List ℕ
 note_of n (Logged moment datagram) = []
 note_of n (Told why) = note_line n why
@@ -124,7 +124,7 @@ Sorts P ports n (r ∷ rs) before log notes after =
     × PrintsRecord P before.datagrams s text refused × (log ≡ text ++ more) × (notes ≡ note_of n s ++ told)
     × Sorts P ports (n + 1) rs (count_of s refused before) more told after
 
--- The capture's records in order, as a log, what is told and what is counted.
+-- The capture's records in order, as a log, what is reported and what is counted.
 pub record IsLogOf (P : Printing) (ports capture log notes : List ℕ) (passed : Counts) : Type 0 where
   pub front : List ℕ
   pub rest : List ℕ
@@ -195,7 +195,7 @@ StopsWriting held written log untold told notes =
     (WritesFront held written log × Appends untold told notes)
     ⊎ (Appends held written log × WritesFront untold told notes)
 
--- A write failed: what the records come to that were read is written but for an end, in the log or in what is told.
+-- A write failed: what the records come to that were read is written but for an end, in the log or in what is reported.
 pub record WriteFails (P : Printing) (ports : List ℕ) (begun : State) (s : Streams) : Type 0 where
   pub items : List (Option Record)
   pub state : State
@@ -209,7 +209,7 @@ pub record WriteFails (P : Printing) (ports : List ℕ) (begun : State) (s : Str
   pub stops : StopsWriting s.held s.written log s.untold s.told notes
 
 -- What is done behind the beginning where it stops with a fault. A read fails before an item is whole, and
--- memory may be wanted for what an item comes to.
+-- memory may be wanted for what an item becomes.
 abbrev pub StopsItems : Printing → List ℕ → State → ℕ → Streams → CaptureFault → Type 0
 StopsItems P ports begun begin s (fault.Octet place) = (passed : Counts)
     × Stands P ports begun s (IsBad begin s.left place) passed
@@ -256,7 +256,7 @@ StopsDatagram P moment datagram before held written fault.CannotWrite =
     × WritesFront held written text
 StopsDatagram P moment datagram before held written fault.OutOfMemory = Keeps held written
 
--- record n was sorted, and what it comes to is written
+-- record n was sorted, and what it becomes is written
 pub record WritesRecord (P : Printing) (ports : List ℕ) (r : Record) (n : ℕ) (before after : Counts)
     (held written untold told : Option (List ℕ)) : Type 0 where
   pub sorted : Sorted
@@ -268,7 +268,7 @@ pub record WritesRecord (P : Printing) (ports : List ℕ) (r : Record) (n : ℕ)
   pub wrote : Appends held written text
   pub tells : Appends untold told (note_of n sorted)
 
--- what it comes to, behind so many datagrams, isn't written whole
+-- what it becomes, after so many datagrams, isn't written whole
 pub record WritesRecordFront (P : Printing) (ports : List ℕ) (r : Record) (n count : ℕ)
     (held written untold told : Option (List ℕ)) : Type 0 where
   pub sorted : Sorted

@@ -169,7 +169,7 @@ of_header h = inl h
 abbrev pub of_section : InSection → State
 of_section s = inr s
 
--- a block of which that is the front was read, or it is none
+-- a block of which that is the front was read, or it isn't one
 abbrev pub IsNextBlock : List ℕ → InSection → InSection → List ℕ → Option (List ℕ) → Option (List ℕ)
     → Option Item → Type 0
 IsNextBlock front s t room old new (Some i) = (w : ReadsItem (inr s) (inr t) room old new i) × (more : List ℕ)

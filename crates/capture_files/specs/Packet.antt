@@ -96,7 +96,7 @@ abbrev pub is_piece : List ℕ → Place → Bool
 is_piece octets p = (p.kind == 44) &&
     (not (field16 octets (p.at + 2) / 8 == 0) || not (field16 octets (p.at + 2) % 2 == 0))
 
--- What stands behind an extension header: its kind is in the first octet, and its length in the second but
+-- What follows an extension header: its kind is in the first octet, and its length in the second but
 -- for a fragment header.
 abbrev pub next_place : List ℕ → Place → Place
 next_place octets p = record {
@@ -138,7 +138,7 @@ pub record IsIpv6 (octets : List ℕ) : Type 0 where
   pub long : 40 ≤ length octets
   pub version : slice_index octets 0 / 16 ≡ 6
 
--- the packet, without what stands behind its payload
+-- the packet, without what follows its payload
 abbrev pub ipv6_packet : List ℕ → List ℕ
 ipv6_packet octets = take (40 + field16 octets 4) octets
 

@@ -12,7 +12,7 @@ abbrev pub packet_record : ℕ → List ℕ → Record
 packet_record moment packet = record { link = 101; moment = Some moment; packet = packet; original = length packet }
 
 -- Such packets are records, numbered from 1: the log has their datagrams as they are printed, and each other
--- packet is told or counted.
+-- packet is reported or counted.
 abbrev pub ComeTo : Printing → List ℕ → ℕ → List (List ℕ) → List ℕ → List ℕ → Counts → Type 0
 ComeTo P ports moment packets log notes passed = Sorts P ports 1
     (map (packet_record moment) packets) none_passed log notes passed

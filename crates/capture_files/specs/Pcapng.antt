@@ -75,7 +75,7 @@ with_option order octets i =
     else (if (field16_by order octets 0 == 14) && (field16_by order octets 2 == 8) then record i
     { offset = field64 order octets 4 } else i)
 
--- what stands behind it: a value is filled up to a multiple of four octets
+-- what follows it: a value is filled up to a multiple of four octets
 abbrev pub behind_option : Order → List ℕ → List ℕ
 behind_option order octets = drop (4 + (field16_by order octets 2 + 3) / 4 * 4) octets
 
@@ -132,7 +132,7 @@ pub record IsPacket (s : InSection) (order : Order) (front : List ℕ) (size : �
   pub packet : r.packet ≡ take (field32 order front 20) (drop 28 front)
   pub original : r.original ≡ field32 order front 24
 
--- a record of which nothing is told but that it has no moment
+-- a record of which nothing is reported but that it has no moment
 abbrev pub undated : Record
 undated = record { link = 0; moment = None; packet = []; original = 0 }
 

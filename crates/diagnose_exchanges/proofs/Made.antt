@@ -5,7 +5,7 @@ use Rattle.std.proofs.lemmas.List.Elements.{All-cons, All-get_or, All-head, All-
 use Rattle.diagnose_exchanges.specs.declared.exchange.Ending.{Ending}
 use Rattle.diagnose_exchanges.specs.declared.exchange.Ending.TheVariants.{Waits, Alone, Answered, SentAgain, NoAnswer, NotFollowed}
 use Rattle.diagnose_exchanges.specs.declared.exchange.Exchange.{Exchange}
-use Rattle.diagnose_exchanges.specs.Exchanges.{Became, HasRun, IsGivenUp, IsMadeBy, IsUnanswered, Step, begins, answers, ends, hands_over, finishes, begun, counting, ended, place_after, resent}
+use Rattle.diagnose_exchanges.specs.Exchanges.{Became, HasRun, IsGivenUp, IsMadeBy, IsUnanswered, Step, begins, answers, claims, ends, hands_over, finishes, begun, counting, ended, claimed, place_after, resent}
 
 module _ {K Q A : Type 0} where
   -- it is as it began
@@ -38,14 +38,14 @@ module _ {K Q A : Type 0} where
 
   -- with another ending
   made_ended : (all : List (Step K Q A)) (ending : Ending K A) (e : Exchange K Q A) (m : IsMadeBy all e) → Became all m.ending ending → IsMadeBy all (ended ending e)
-  made_ended all ending e m became = record { counts = m.counts; ending = m.ending; began = m.began; became = became }
+  made_ended all ending e m became = record { counts = m.counts; ending = m.ending; began = m.began; said = m.said; became = became }
 
   -- with another count
   made_counting : (all : List (Step K Q A)) (counts : Bool) (e : Exchange K Q A) → IsMadeBy all e → IsMadeBy all (counting counts e)
-  made_counting all counts e m = record { counts = m.counts; ending = m.ending; began = m.began; became = m.became }
+  made_counting all counts e m = record { counts = m.counts; ending = m.ending; began = m.began; said = m.said; became = m.became }
 
   made_resent : (all : List (Step K Q A)) (number : ℕ) (e : Exchange K Q A) → IsMadeBy all e → IsMadeBy all (resent number e)
-  made_resent all number e m = record { counts = m.counts; ending = m.ending; began = m.began; became = tt }
+  made_resent all number e m = record { counts = m.counts; ending = m.ending; began = m.began; said = m.said; became = tt }
 
   all_made : (all : List (Step K Q A)) (gone : ℕ) (old : List (Exchange K Q A)) (steps : List (Step K Q A)) (finished new : List (Exchange K Q A)) → ((s : Step K Q A) → Contains steps s → Contains all s) → All (IsMadeBy all) old
       → HasRun gone old steps finished new → All (IsMadeBy all) (finished ++ new)
@@ -56,6 +56,7 @@ module _ {K Q A : Type 0} where
         counts = counts;
         ending = ending;
         began = among (begins number first counts ending) (first_in (begins number first counts ending) steps);
+        said = tt;
         became = as_begun all ending h.0;
       } in
       all_made all gone (old ++ begun number first counts ending ∷ []) steps finished new (others_in all (begins number first counts ending) steps among)
@@ -68,6 +69,19 @@ module _ {K Q A : Type 0} where
       (place, asked, was, among (answers place by asked answer) (first_in (answers place by asked answer) steps)) in
       all_made all gone h.0 steps finished new (others_in all (answers place by asked answer) steps among)
       (All-same (IsMadeBy all) h.0 _ h.1.new_is (All-set (IsMadeBy all) old h.1.index (ended (Answered by answer) w.exchange) now made)) h.3
+  all_made all gone old (claims place by asked answer ∷ steps) finished new among made h =
+      let w = h.1.waited in
+      let m = read_made all old h.1.index w.exchange w.within w.exchange_is made in
+      let was : m.ending ≡ Waits asked = subst (Became all m.ending) h.2 m.became in
+      let now : IsMadeBy all (claimed by answer w.exchange) = record {
+        counts = m.counts;
+        ending = m.ending;
+        began = m.began;
+        said = (place, asked, was, among (claims place by asked answer) (first_in (claims place by asked answer) steps));
+        became = m.became;
+      } in
+      all_made all gone h.0 steps finished new (others_in all (claims place by asked answer) steps among)
+      (All-same (IsMadeBy all) h.0 _ h.1.new_is (All-set (IsMadeBy all) old h.1.index (claimed by answer w.exchange) now made)) h.3
   all_made all gone old (ends place ending ∷ steps) finished new among made h =
       let w = h.2.waited in
       let m = read_made all old h.2.index w.exchange w.within w.exchange_is made in

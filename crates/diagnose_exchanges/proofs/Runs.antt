@@ -1,5 +1,5 @@
 -- Each datagram that steps take is in one exchange, and exchanges are finished in order.
-use Rattle.std.proofs.Common.{◌≡◌, ◌+◌, ◌∙◌, ◌++◌, ℕ, List, [], ◌∷◌, true, ap, sym, refl, slice_set, map, nat_eq, cond, arith}
+use Rattle.std.proofs.Common.{◌≡◌, ◌+◌, ◌∙◌, ◌++◌, ℕ, List, [], ◌∷◌, Option, Some, None, true, ap, sym, refl, slice_set, map, nat_eq, cond, arith}
 use Rattle.std.specs.List.{sum_by}
 use Rattle.std.proofs.lemmas.List.{append-nil, append_assoc, map-append, get_or-set_other, length-set}
 use Rattle.diagnose_exchanges.proofs.Steps.{apart}
@@ -8,7 +8,8 @@ use Rattle.std.proofs.Math.Seq.{map-set_same}
 use Rattle.diagnose_exchanges.specs.declared.exchange.Ending.{Ending}
 use Rattle.diagnose_exchanges.specs.declared.exchange.Ending.TheVariants.{Waits, Alone, Answered, SentAgain, NoAnswer, NotFollowed}
 use Rattle.diagnose_exchanges.specs.declared.exchange.Exchange.{Exchange}
-use Rattle.diagnose_exchanges.specs.Exchanges.{Ends, HandsOver, HasRun, Step, begins, answers, ends, hands_over, finishes, answers_in, begun, begun_by, counted, counted_by, counting, datagrams_of, ended, is_waiting, place_after, resent, taken_by, times, times_in}
+use Rattle.diagnose_exchanges.specs.Exchanges.{Ends, HandsOver, HasRun, GetsClaim, Step, begins, answers, claims, ends, hands_over, finishes, answers_in, begun, begun_by, counted, counted_by, counting, datagrams_of, ended, claimed, claims_in, is_waiting, place_after, resent, taken_by, times, times_in}
+use Rattle.diagnose_exchanges.specs.declared.exchange.Claim.{Claim}
 
 module _ {K A : Type 0} where
   -- nothing answers it yet
@@ -20,6 +21,20 @@ module _ {K A : Type 0} where
   unanswered NoAnswer h = refl
   unanswered NotFollowed h = refl
 
+module _ {A : Type 0} where
+  -- the datagrams of an exchange are its first, the one that may be forged, and the one that ends it
+  times_split : (n number : ℕ) (claim : Option (Claim A)) (ns : List ℕ) → times n (number ∷ (claims_in claim ++ ns)) ≡ times n (number ∷ []) + (times n (claims_in claim) + times n ns)
+  times_split n number None ns =
+      let whole = sum_by-cons (λ m. cond (nat_eq n m) 1 0) number ns in
+      let one = sum_by-cons (λ m. cond (nat_eq n m) 1 0) number [] in
+      omega (arith, whole, one)
+  times_split n number (Some claim) ns =
+      let whole = sum_by-cons (λ m. cond (nat_eq n m) 1 0) number (claim.by ∷ ns) in
+      let one = sum_by-cons (λ m. cond (nat_eq n m) 1 0) number [] in
+      let rest = sum_by-cons (λ m. cond (nat_eq n m) 1 0) claim.by ns in
+      let other = sum_by-cons (λ m. cond (nat_eq n m) 1 0) claim.by [] in
+      omega (arith, whole, one, rest, other)
+
 module _ {K Q A : Type 0} where
   -- an ending adds the datagram that makes it
   times_ended : (n gone : ℕ) (old new : List (Exchange K Q A)) (place : ℕ) (ending : Ending K A) → Ends gone old new place ending → times_in n new ≡ times_in n old + times n (answers_in ending)
@@ -29,10 +44,37 @@ module _ {K Q A : Type 0} where
       let is = ap (times_in n) e.new_is in
       let set = sum_by-set f old e.index (ended ending x) x e.waited.within in
       let read = ap f (sym e.waited.exchange_is) in
-      let none = ap (λ ns. times n (x.number ∷ ns)) (unanswered x.ending e.waited.waiting) in
-      let one = sum_by-cons (λ m. cond (nat_eq n m) 1 0) x.number [] in
-      let more = sum_by-cons (λ m. cond (nat_eq n m) 1 0) x.number (answers_in ending) in
-      omega (arith, is, set, read, none, one, more)
+      let none = ap (times n) (unanswered x.ending e.waited.waiting) in
+      let before = times_split n x.number x.claim (answers_in x.ending) in
+      let after = times_split n x.number x.claim (answers_in ending) in
+      omega (arith, is, set, read, none, before, after)
+
+  -- a datagram that may be forged is added
+  times_claimed : (n gone : ℕ) (old new : List (Exchange K Q A)) (place by : ℕ) (answer : A) → GetsClaim gone old new place by answer → times_in n new ≡ times_in n old + times n (by ∷ [])
+  times_claimed n gone old new place by answer e =
+      let x = e.waited.exchange in
+      let f = λ (y : Exchange K Q A). times n (datagrams_of y) in
+      let is = ap (times_in n) e.new_is in
+      let set = sum_by-set f old e.index (claimed by answer x) x e.waited.within in
+      let read = ap f (sym e.waited.exchange_is) in
+      let none = ap (λ claim. times n (claims_in claim)) e.first in
+      let before = times_split n x.number x.claim (answers_in x.ending) in
+      let after = times_split n x.number (Some (record { by = by; answer = answer })) (answers_in x.ending) in
+      omega (arith, is, set, read, none, before, after)
+
+  -- an exchange of which something is said stays where it is, and counts as before
+  numbers_claimed : (gone : ℕ) (old new : List (Exchange K Q A)) (place by : ℕ) (answer : A) → GetsClaim gone old new place by answer → map (λ e. e.number) new ≡ map (λ e. e.number) old
+  numbers_claimed gone old new place by answer e =
+      ap (map (λ x. x.number)) e.new_is ∙ map-set_same (λ x. x.number) old e.index (claimed by answer e.waited.exchange) e.waited.exchange (ap (λ x. x.number) e.waited.exchange_is)
+
+  counted_claimed : (gone : ℕ) (old new : List (Exchange K Q A)) (place by : ℕ) (answer : A) → GetsClaim gone old new place by answer → counted new ≡ counted old
+  counted_claimed gone old new place by answer e =
+      let f = λ (y : Exchange K Q A). cond y.counts 1 0 in
+      let x = e.waited.exchange in
+      let is = ap counted e.new_is in
+      let set = sum_by-set f old e.index (claimed by answer x) x e.waited.within in
+      let read = ap f (sym e.waited.exchange_is) in
+      omega (arith, is, set, read)
 
   -- an exchange that ends stays where it is
   numbers_ended : (gone : ℕ) (old new : List (Exchange K Q A)) (place : ℕ) (ending : Ending K A) → Ends gone old new place ending → map (λ e. e.number) new ≡ map (λ e. e.number) old
@@ -56,7 +98,7 @@ module _ {K Q A : Type 0} where
   -- no datagram is in more exchanges than before
   times_handed : (n gone : ℕ) (old new : List (Exchange K Q A)) (first place : ℕ) → HandsOver gone old new first place → times_in n new ≡ times_in n old
   times_handed n gone old new first place h =
-      let none = ap (λ ns. times n (h.waited.exchange.number ∷ ns)) (unanswered h.waited.exchange.ending h.waited.waiting) in
+      let none = ap (λ ns. times n (h.waited.exchange.number ∷ (claims_in h.waited.exchange.claim ++ ns))) (unanswered h.waited.exchange.ending h.waited.waiting) in
       let sum = sum_handed (λ y. times n (datagrams_of y)) gone old new first place h in
       omega (arith, none, sum)
 
@@ -106,6 +148,12 @@ module _ {K Q A : Type 0} where
       let one = sum_by-cons (λ m. cond (nat_eq n m) 1 0) by [] in
       let more = sum_by-cons (λ m. cond (nat_eq n m) 1 0) by (taken_by steps) in
       omega (arith, rest, step, one, more)
+  each_once n gone old (claims place by asked answer ∷ steps) finished new h =
+      let rest = each_once n gone h.0 steps finished new h.3 in
+      let step = times_claimed n gone old h.0 place by answer h.1 in
+      let one = sum_by-cons (λ m. cond (nat_eq n m) 1 0) by [] in
+      let more = sum_by-cons (λ m. cond (nat_eq n m) 1 0) by (taken_by steps) in
+      omega (arith, rest, step, one, more)
   each_once n gone old (ends place ending ∷ steps) finished new h =
       let rest = each_once n gone h.0 steps finished new h.3 in
       let step = times_ended n gone old h.0 place ending h.2 in
@@ -133,6 +181,8 @@ module _ {K Q A : Type 0} where
       ∙ append_assoc (map (λ e. e.number) old) (number ∷ []) (begun_by steps)
   in_order gone old (answers place by asked answer ∷ steps) finished new h =
       in_order gone h.0 steps finished new h.3 ∙ ap (λ ns. ns ++ begun_by steps) (numbers_ended gone old h.0 place (Answered by answer) h.1)
+  in_order gone old (claims place by asked answer ∷ steps) finished new h =
+      in_order gone h.0 steps finished new h.3 ∙ ap (λ ns. ns ++ begun_by steps) (numbers_claimed gone old h.0 place by answer h.1)
   in_order gone old (ends place ending ∷ steps) finished new h =
       in_order gone h.0 steps finished new h.3 ∙ ap (λ ns. ns ++ begun_by steps) (numbers_ended gone old h.0 place ending h.2)
   in_order gone old (hands_over first place ∷ steps) finished new h =
@@ -154,6 +204,10 @@ module _ {K Q A : Type 0} where
   counted_once gone old (answers place by asked answer ∷ steps) finished new h =
       let rest = counted_once gone h.0 steps finished new h.3 in
       let step = counted_ended gone old h.0 place (Answered by answer) h.1 in
+      omega (arith, rest, step)
+  counted_once gone old (claims place by asked answer ∷ steps) finished new h =
+      let rest = counted_once gone h.0 steps finished new h.3 in
+      let step = counted_claimed gone old h.0 place by answer h.1 in
       omega (arith, rest, step)
   counted_once gone old (ends place ending ∷ steps) finished new h =
       let rest = counted_once gone h.0 steps finished new h.3 in

@@ -1,11 +1,12 @@
 -- What a step leaves, by the exchange that was read at its index.
-use Rattle.std.proofs.Common.{◌≡◌, ◌≢◌, ◌<◌, ◌∙◌, ℕ, Bool, true, List, [], length, ap, refl, sym, slice_index_or, slice_set}
+use Rattle.std.proofs.Common.{◌≡◌, ◌≢◌, ◌<◌, ◌∙◌, ℕ, Bool, true, false, List, [], Option, Some, None, is_some, length, ap, refl, sym, slice_index_or, slice_set}
 use Rattle.std.proofs.lemmas.List.{get_or_default, get_or-set_other}
 use Rattle.std.proofs.lemmas.Bool.{false≢true}
 use Rattle.diagnose_exchanges.specs.declared.exchange.Ending.{Ending}
 use Rattle.diagnose_exchanges.specs.declared.exchange.Ending.TheVariants.{Waits, Alone, Answered, SentAgain, NoAnswer, NotFollowed}
 use Rattle.diagnose_exchanges.specs.declared.exchange.Exchange.{Exchange}
-use Rattle.diagnose_exchanges.specs.Exchanges.{AnswersAt, Ends, IsAsking, IsUncounted, IsWaiting, asks, counting, ended, is_waiting, resent, waits}
+use Rattle.diagnose_exchanges.specs.declared.exchange.Claim.{Claim}
+use Rattle.diagnose_exchanges.specs.Exchanges.{AnswersAt, Ends, ClaimsAt, IsAsking, IsUncounted, IsWaiting, asks, counting, ended, claimed, is_waiting, resent, waits}
 
 module _ {K A : Type 0} where
   -- what it waits for
@@ -16,6 +17,11 @@ module _ {K A : Type 0} where
   held_by eq asked (SentAgain number) h = cc h
   held_by eq asked NoAnswer h = cc h
   held_by eq asked NotFollowed h = cc h
+
+module _ {A : Type 0} where
+  none_there : (claim : Option (Claim A)) → is_some claim ≡ false → claim ≡ None
+  none_there None h = refl
+  none_there (Some said) h = cc h
 
 module _ {K Q A : Type 0} where
   pub ends_read : (gone : ℕ) (old : List (Exchange K Q A)) (place index : ℕ) (read : Exchange K Q A) (ending : Ending K A) → IsWaiting gone old place index → read ≡ slice_index_or old index read → Ends gone old (slice_set old index (ended ending read)) place ending
@@ -67,6 +73,37 @@ module _ {K Q A : Type 0} where
                 waiting = ap is_waiting held.1;
               };
               new_is = new_is ∙ ap (λ e. slice_set old index (ended (Answered by answer) e)) same;
+            },
+            held.1,
+            (refl, refl),
+          ),
+        ),
+      )
+
+  -- the exchange that asked was read, and something was said of it
+  pub claimed_at : (eq : K → K → Bool) (gone : ℕ) (old new : List (Exchange K Q A)) (place by index : ℕ) (asked : K) (answer : A) (looked read : Exchange K Q A)
+      → IsAsking eq gone old place asked index → looked ≡ slice_index_or old index looked → is_some looked.claim ≡ false → read ≡ slice_index_or old index read → new ≡ slice_set old index (claimed by answer read) → ClaimsAt eq gone old new asked by answer place
+  claimed_at eq gone old new place by index asked answer looked read a looked_is unsaid read_is new_is =
+      let held = held_by eq asked a.exchange.ending a.asking in
+      let same = read_is ∙ get_or_default old index read a.exchange a.within ∙ sym a.exchange_is in (
+        held.0,
+        held.2,
+        (
+          [],
+          refl,
+          (
+            new,
+            record {
+              index = index;
+              waited = record {
+                place_is = a.place_is;
+                within = a.within;
+                exchange = a.exchange;
+                exchange_is = a.exchange_is;
+                waiting = ap is_waiting held.1;
+              };
+              first = none_there a.exchange.claim (ap (λ e. is_some e.claim) (a.exchange_is ∙ get_or_default old index a.exchange looked a.within ∙ sym looked_is) ∙ unsaid);
+              new_is = new_is ∙ ap (λ e. slice_set old index (claimed by answer e)) same;
             },
             held.1,
             (refl, refl),

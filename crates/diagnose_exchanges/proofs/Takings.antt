@@ -2,7 +2,7 @@
 use Rattle.std.proofs.Common.{◌≡◌, ◌∙◌, ◌++◌, ℕ, Bool, true, false, List, [], ◌∷◌, ap, refl, subst}
 use Rattle.diagnose_exchanges.specs.declared.exchange.Ending.{Ending}
 use Rattle.diagnose_exchanges.specs.declared.exchange.Exchange.{Exchange}
-use Rattle.diagnose_exchanges.specs.Exchanges.{Ends, HandsOver, HasRun, IsGivenUp, IsUnanswered, Step, Takes, TakesBy, begins, answers, ends, hands_over, finishes, begun, taken_by}
+use Rattle.diagnose_exchanges.specs.Exchanges.{Ends, HandsOver, HasRun, IsGivenUp, IsUnanswered, Step, Takes, TakesBy, begins, answers, claims, ends, hands_over, finishes, begun, taken_by}
 
 module _ {K Q A : Type 0} where
   pub begun_takes : (number gone : ℕ) (old new : List (Exchange K Q A)) (first : Q) (counts : Bool) (ending : Ending K A) → IsUnanswered ending
@@ -28,6 +28,7 @@ module _ {K Q A : Type 0} where
   taken_append [] more = refl
   taken_append (begins number first counts ending ∷ steps) more = ap (λ ns. number ∷ ns) (taken_append steps more)
   taken_append (answers place by asked answer ∷ steps) more = ap (λ ns. by ∷ ns) (taken_append steps more)
+  taken_append (claims place by asked answer ∷ steps) more = ap (λ ns. by ∷ ns) (taken_append steps more)
   taken_append (ends place ending ∷ steps) more = taken_append steps more
   taken_append (hands_over first place ∷ steps) more = taken_append steps more
   taken_append (finishes ∷ steps) more = taken_append steps more
@@ -36,6 +37,7 @@ module _ {K Q A : Type 0} where
   run_append gone old mid new [] more h k = subst (λ xs. HasRun gone xs more [] new) h.1 k
   run_append gone old mid new (begins number first counts ending ∷ steps) more h k = (h.0, run_append gone _ mid new steps more h.1 k)
   run_append gone old mid new (answers place by asked answer ∷ steps) more h k = (h.0, h.1, h.2, run_append gone h.0 mid new steps more h.3 k)
+  run_append gone old mid new (claims place by asked answer ∷ steps) more h k = (h.0, h.1, h.2, run_append gone h.0 mid new steps more h.3 k)
   run_append gone old mid new (ends place ending ∷ steps) more h k = (h.0, h.1, h.2, run_append gone h.0 mid new steps more h.3 k)
   run_append gone old mid new (hands_over first place ∷ steps) more h k = (h.0, h.1, run_append gone h.0 mid new steps more h.2 k)
   run_append gone old mid new (finishes ∷ steps) more h k = cc (h.4)

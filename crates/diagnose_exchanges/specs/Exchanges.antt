@@ -1,7 +1,8 @@
 -- Exchanges in the order of their first datagrams, and the steps by which a capture makes them.
 --
 -- `begun`: an exchange as a datagram begins it. `IsWaiting`, `WaitsAt`: at a place an exchange waits. `Ends`: it
--- ends, by an answer or without one. `HandsOver`: a request that was sent again counts instead of the first.
+-- ends, by an answer or without one. `GetsClaim`: a datagram that may be forged says how it ended, and it waits on.
+-- `HandsOver`: a request that was sent again counts instead of the first.
 -- `Step`, `HasRun`: the steps, and runs of them. `Takes`, `TakesBy`: a run that takes exactly these datagrams, or that
 -- begins with this step. `IsMadeBy`: what an exchange holds is what the steps gave to it.
 use Rattle.std.specs.Prelude.{◌≡◌, ◌≢◌, ◌⊎◌, Option, Some, None, ◌+◌, ◌++◌, ℕ, List, [], ◌∷◌, Bool, true, false, length}
@@ -12,6 +13,7 @@ use Rattle.diagnose_exchanges.specs.declared.exchange.Ending.{Ending}
 use Rattle.diagnose_exchanges.specs.declared.exchange.Ending.TheVariants.{Waits, Alone, Answered, SentAgain}
 use Rattle.diagnose_exchanges.specs.declared.exchange.Ending.TheVariants.{NoAnswer, NotFollowed}
 use Rattle.diagnose_exchanges.specs.declared.exchange.Exchange.{Exchange}
+use Rattle.diagnose_exchanges.specs.declared.exchange.Claim.{Claim}
 
 -- how many exchanges are held at once
 abbrev pub exchanges_limit : ℕ
@@ -44,19 +46,53 @@ module _ {K Q A : Type 0} where
 
   -- the exchange with another ending
   abbrev pub ended : Ending K A → Exchange K Q A → Exchange K Q A
-  ended ending e = record { number = e.number; first = e.first; counts = e.counts; ending = ending }
+  ended ending e = record {
+    number = e.number;
+    first = e.first;
+    counts = e.counts;
+    claim = e.claim;
+    ending = ending;
+  }
+
+  -- the exchange, of which the datagram with this number says this
+  abbrev pub claimed : ℕ → A → Exchange K Q A → Exchange K Q A
+  claimed by answer e = record {
+    number = e.number;
+    first = e.first;
+    counts = e.counts;
+    claim = Some (record { by = by; answer = answer });
+    ending = e.ending;
+  }
 
   -- an exchange as it begins
   abbrev pub begun : ℕ → Q → Bool → Ending K A → Exchange K Q A
-  begun number first counts ending = record { number = number; first = first; counts = counts; ending = ending }
+  begun number first counts ending = record {
+    number = number;
+    first = first;
+    counts = counts;
+    claim = None;
+    ending = ending;
+  }
 
   -- the exchange, whose request was sent again with the datagram of this number, and which doesn't count any more
   abbrev pub resent : ℕ → Exchange K Q A → Exchange K Q A
-  resent number e = record { number = e.number; first = e.first; counts = false; ending = SentAgain number }
+  resent number e = record {
+    number = e.number;
+    first = e.first;
+    counts = false;
+    claim = e.claim;
+    ending = SentAgain number;
+  }
 
   -- the exchange, which counts or doesn't
   abbrev pub counting : Bool → Exchange K Q A → Exchange K Q A
-  counting counts e = record { number = e.number; first = e.first; counts = counts; ending = e.ending }
+  counting counts e = record {
+    number = e.number;
+    first = e.first;
+    counts = counts;
+    claim = e.claim;
+    ending = e.ending;
+  }
 
   -- at this index of the list, and at this place behind so many that are gone, an exchange waits
   pub record IsWaiting (gone : ℕ) (list : List (Exchange K Q A)) (place index : ℕ) : Type 0 where
@@ -83,11 +119,24 @@ module _ {K Q A : Type 0} where
   abbrev pub AsksAt : (K → K → Bool) → ℕ → List (Exchange K Q A) → ℕ → K → Type 0
   AsksAt eq gone list place asked = (index : ℕ) × IsAsking eq gone list place asked index
 
+  -- and nothing that may be forged says yet how it ended
+  abbrev pub AsksUnclaimedAt : (K → K → Bool) → ℕ → List (Exchange K Q A) → ℕ → K → Type 0
+  AsksUnclaimedAt eq gone list place asked =
+      (index : ℕ) × (asks : IsAsking eq gone list place asked index) × (asks.exchange.claim ≡ None)
+
   -- The exchange at this place waited, and has this ending now. All others are as before.
   pub record Ends (gone : ℕ) (old new : List (Exchange K Q A)) (place : ℕ) (ending : Ending K A) : Type 0 where
     pub index : ℕ
     pub waited : IsWaiting gone old place index
     pub new_is : new ≡ slice_set old index (ended ending waited.exchange)
+
+  -- Of the exchange at this place, which waits on, this datagram says this, and none did before. All others are as
+  -- before.
+  pub record GetsClaim (gone : ℕ) (old new : List (Exchange K Q A)) (place by : ℕ) (answer : A) : Type 0 where
+    pub index : ℕ
+    pub waited : IsWaiting gone old place index
+    pub first : waited.exchange.claim ≡ None
+    pub new_is : new ≡ slice_set old index (claimed by answer waited.exchange)
 
 module _ {K Q A : Type 0} where
   -- at this index of the list, and at this place after so many that are gone, an exchange is finished and doesn't
@@ -144,10 +193,16 @@ module _ {K A : Type 0} where
   abbrev pub IsGivenUp : Ending K A → Type 0
   IsGivenUp ending = IsUnanswered ending × (is_waiting ending ≡ false)
 
+module _ {A : Type 0} where
+  -- the datagram that may be forged
+  abbrev pub claims_in : Option (Claim A) → List ℕ
+  claims_in None = []
+  claims_in (Some claim) = claim.by ∷ []
+
 module _ {K Q A : Type 0} where
   -- the numbers of the datagrams of an exchange
   abbrev pub datagrams_of : Exchange K Q A → List ℕ
-  datagrams_of e = e.number ∷ answers_in e.ending
+  datagrams_of e = e.number ∷ (claims_in e.claim ++ answers_in e.ending)
 
   -- how many exchanges count
   abbrev pub counted : List (Exchange K Q A) → ℕ
@@ -158,12 +213,13 @@ module _ {K Q A : Type 0} where
   times_in n list = sum_by (λ e. times n (datagrams_of e)) list
 
 -- What becomes of exchanges. `begins`: a datagram is the first of a new one. `answers`: a datagram answers the one at
--- this place, which waits for an answer to this. `ends`: the one at this place ends without an answer.
--- `hands_over`: the one at `first` was sent again as that at this place, which counts instead. `finishes`: the
--- first is taken out.
+-- this place, which waits for an answer to this. `claims`: one that may be forged says how that one ended. `ends`: the
+-- one at this place ends without an answer. `hands_over`: the one at `first` was sent again as that at this place,
+-- which counts instead. `finishes`: the first is taken out.
 pub data Step (K Q A : Type 0) : Type 0 where
   begins : (number : ℕ) (first : Q) (counts : Bool) (ending : Ending K A) → Step K Q A
   answers : (place by : ℕ) (asked : K) (answer : A) → Step K Q A
+  claims : (place by : ℕ) (asked : K) (answer : A) → Step K Q A
   ends : (place : ℕ) (ending : Ending K A) → Step K Q A
   hands_over : (first place : ℕ) → Step K Q A
   finishes : Step K Q A
@@ -174,6 +230,7 @@ module _ {K Q A : Type 0} where
   taken_by [] = []
   taken_by (begins number first counts ending ∷ steps) = number ∷ taken_by steps
   taken_by (answers place by asked answer ∷ steps) = by ∷ taken_by steps
+  taken_by (claims place by asked answer ∷ steps) = by ∷ taken_by steps
   taken_by (ends place ending ∷ steps) = taken_by steps
   taken_by (hands_over first place ∷ steps) = taken_by steps
   taken_by (finishes ∷ steps) = taken_by steps
@@ -183,6 +240,7 @@ module _ {K Q A : Type 0} where
   begun_by [] = []
   begun_by (begins number first counts ending ∷ steps) = number ∷ begun_by steps
   begun_by (answers place by asked answer ∷ steps) = begun_by steps
+  begun_by (claims place by asked answer ∷ steps) = begun_by steps
   begun_by (ends place ending ∷ steps) = begun_by steps
   begun_by (hands_over first place ∷ steps) = begun_by steps
   begun_by (finishes ∷ steps) = begun_by steps
@@ -192,6 +250,7 @@ module _ {K Q A : Type 0} where
   counted_by [] = 0
   counted_by (begins number first counts ending ∷ steps) = cond counts 1 0 + counted_by steps
   counted_by (answers place by asked answer ∷ steps) = counted_by steps
+  counted_by (claims place by asked answer ∷ steps) = counted_by steps
   counted_by (ends place ending ∷ steps) = counted_by steps
   counted_by (hands_over first place ∷ steps) = counted_by steps
   counted_by (finishes ∷ steps) = counted_by steps
@@ -205,6 +264,9 @@ module _ {K Q A : Type 0} where
   HasRun gone old (answers place by asked answer ∷ steps) finished new =
       (mid : List (Exchange K Q A)) × (ends : Ends gone old mid place (Answered by answer))
       × (ends.waited.exchange.ending ≡ Waits asked) × HasRun gone mid steps finished new
+  HasRun gone old (claims place by asked answer ∷ steps) finished new =
+      (mid : List (Exchange K Q A)) × (claim : GetsClaim gone old mid place by answer)
+      × (claim.waited.exchange.ending ≡ Waits asked) × HasRun gone mid steps finished new
   HasRun gone old (ends place ending ∷ steps) finished new =
       (mid : List (Exchange K Q A)) × IsGivenUp ending × Ends gone old mid place ending
       × HasRun gone mid steps finished new
@@ -224,6 +286,11 @@ module _ {K Q A : Type 0} where
   abbrev pub AnswersAt : (K → K → Bool) → ℕ → List (Exchange K Q A) → List (Exchange K Q A) → K → ℕ → A → ℕ → Type 0
   AnswersAt eq gone old new asked by answer place =
       (held : K) × (eq held asked ≡ true) × TakesBy (answers place by held answer) gone old new
+
+  -- What may be forged is said of what was asked: the exchange that waits at this place asked the same.
+  abbrev pub ClaimsAt : (K → K → Bool) → ℕ → List (Exchange K Q A) → List (Exchange K Q A) → K → ℕ → A → ℕ → Type 0
+  ClaimsAt eq gone old new asked by answer place =
+      (held : K) × (eq held asked ≡ true) × TakesBy (claims place by held answer) gone old new
 
 module _ {K Q A : Type 0} where
   -- by some steps, of which none takes an exchange out, exactly these datagrams are taken
@@ -254,9 +321,16 @@ module _ {K Q A : Type 0} where
   Became steps ending NoAnswer = Unit {0}
   Became steps ending NotFollowed = Unit {0}
 
+  -- what may be forged was said by one of the steps of the exchange, which began with this ending
+  abbrev pub IsSaidBy : List (Step K Q A) → Ending K A → Option (Claim A) → Type 0
+  IsSaidBy steps ending None = Unit {0}
+  IsSaidBy steps ending (Some claim) =
+      (place : ℕ) × (asked : K) × (ending ≡ Waits asked) × Contains steps (claims place claim.by asked claim.answer)
+
   -- One of these steps began the exchange, by its number and with what it holds of its first datagram.
   pub record IsMadeBy (steps : List (Step K Q A)) (e : Exchange K Q A) : Type 0 where
     pub counts : Bool
     pub ending : Ending K A
     pub began : Contains steps (begins e.number e.first counts ending)
+    pub said : IsSaidBy steps ending e.claim
     pub became : Became steps ending e.ending

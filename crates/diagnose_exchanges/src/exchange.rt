@@ -20,6 +20,14 @@ pub enum Ending<K: Drop, A: Drop> {
     NotFollowed,
 }
 
+/// What a datagram says that may be forged. The true answer may come behind it.
+#[derive(Drop)]
+pub struct Claim<A: Drop> {
+    /// The number of the datagram.
+    pub by: u64,
+    pub answer: A,
+}
+
 /// An exchange.
 #[derive(Drop)]
 pub struct Exchange<K: Drop, Q: Drop, A: Drop> {
@@ -29,6 +37,8 @@ pub struct Exchange<K: Drop, Q: Drop, A: Drop> {
     pub first: Q,
     /// It is counted: it was asked first, or stands for the one that was.
     pub counts: bool,
+    /// The first datagram that may be forged and says how it ended. It ends nothing.
+    pub claim: Option<Claim<A>>,
     pub ending: Ending<K, A>,
 }
 

@@ -7,13 +7,14 @@ ghost use Rattle.diagnose_exchanges.specs.declared.exchange.Exchange.{Exchange a
 ghost use Rattle.std.specs.VecDeque.{deque_len};
 ghost use Rattle.std.specs.HashMap.{IsEmpty, IsUnchanged, Updates, get};
 ghost use Rattle.diagnose_exchanges.specs.Exchanges.{Ends, Forgets, HandsOver, IsUncounted, IsWaiting, WaitsAt};
-ghost use Rattle.diagnose_exchanges.specs.Exchanges.{AnswersAt, AsksAt, IsAsking, LeavesEarlier, Takes, TakesBy};
+ghost use Rattle.diagnose_exchanges.specs.Exchanges.{AnswersAt, AsksAt, AsksUnclaimedAt, ClaimsAt, IsAsking};
+ghost use Rattle.diagnose_exchanges.specs.Exchanges.{LeavesEarlier, Takes, TakesBy};
 ghost use Rattle.diagnose_exchanges.specs.Exchanges.{begins};
 ghost use Rattle.diagnose_exchanges.specs.Exchanges.{begun, counting};
 ghost use Rattle.diagnose_exchanges.specs.Exchanges.{exchanges_limit, is_waiting, place_after, resent, waits};
 ghost use Rattle.diagnose_exchanges.specs.declared.exchange.Ending.TheVariants.{Waits, Alone};
 
-use crate::exchange::{Ending, Exchange};
+use crate::exchange::{Claim, Ending, Exchange};
 use crate::waiting::Waiting;
 use std::alloc::{AllocError, Global};
 use std::collections::VecDeque;
@@ -89,6 +90,7 @@ impl<K: Eq + Hash + Copy + Drop, Q: Drop, A: Drop> Exchanges<K, Q, A> {
             number,
             first,
             counts: false,
+            claim: None,
             ending: Ending::Alone,
         })?;
         Ok(())
@@ -114,6 +116,7 @@ impl<K: Eq + Hash + Copy + Drop, Q: Drop, A: Drop> Exchanges<K, Q, A> {
             number,
             first,
             counts,
+            claim: None,
             ending: Ending::Waits(asked),
         });
         Ok(())
@@ -187,6 +190,32 @@ impl<K: Eq + Hash + Copy + Drop, Q: Drop, A: Drop> Exchanges<K, Q, A> {
             return Err(answer);
         };
         self.list[index].ending = Ending::Answered { by, answer };
+        Ok(place)
+    }
+
+    /// The datagram `by`, which may be forged, says how the exchange ended that waits for an answer with these. That
+    /// waits on, and its place is given. Or no exchange waits for it, or it has such a datagram already: what was said
+    /// is given back. The list stays as it is then.
+    pub fn claim(&mut self, asked: &K, by: u64, answer: A) -> Result<u64, A>
+        ensures claimed { IfOk result
+            (λ place. (get K.eq self.old.waiting.numbers asked.now ≡ Some place)
+            × ClaimsAt K.eq self.old.gone self.old.list.items self.new.list.items asked.now by answer place) }
+        ensures alone { IfErr result (λ back. (back ≡ answer) × (self.new.list.items ≡ self.old.list.items)
+            × ((place : ℕ) → get K.eq self.old.waiting.numbers asked.now ≡ Some place
+            → AsksUnclaimedAt K.eq self.old.gone self.old.list.items place asked.now → ⊥)) }
+        ensures waiting { self.new.waiting ≡ self.old.waiting }
+        ensures gone { self.new.gone ≡ self.old.gone }
+    {
+        let Some(place) = self.waits(asked) else {
+            return Err(answer);
+        };
+        let Some(index) = asks_at(&self.list, self.gone, place, asked) else {
+            return Err(answer);
+        };
+        if self.list[index].claim.is_some() {
+            return Err(answer);
+        }
+        self.list[index].claim = Some(Claim { by, answer });
         Ok(place)
     }
 

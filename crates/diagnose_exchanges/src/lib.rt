@@ -19,7 +19,7 @@ mod waiting;
 
 pub use asked::Asked;
 pub use copies::{COPIES_LIMIT, Copies, digest_of};
-pub use exchange::{Ending, Exchange};
+pub use exchange::{Claim, Ending, Exchange};
 pub use exchanges::{EXCHANGES_LIMIT, Exchanges};
 pub use laws::{
     each_datagram_is_in_one_exchange, each_exchange_holds_what_its_datagrams_gave,

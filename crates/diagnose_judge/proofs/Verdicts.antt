@@ -111,7 +111,7 @@ module _ (users : List User) (held : Marks) (now : ℕ) (w : List ℕ) (v : Veri
   told_at user Unweighed is = accepts user (λ auth. is.0)
   told_at user (Refused r) late = subst (λ (n : Refusal). Outcome (as_agent v.fields.engine (clock_for held now v).boots 0) users (clock_for held now v).time w (Err n)) (sym late.0) (is_late user late.1 late.2)
 
-  -- what is told is what the agent answers
+  -- what is reported is what the agent answers
   pub told : (verdict : Verdict) → IsTold users held now v verdict
       → Outcome (as_agent v.fields.engine (clock_for held now v).boots 0) users (clock_for held now v).time w (verdict_answer g verdict)
   told verdict (inl is) = told_at (named is.0) verdict is.1
@@ -175,7 +175,7 @@ unfolding Opens
 opens_read users w v text None opening read = absurd read
 opens_read users w v text (Some a) opening read = holds opening.0 (text, opening.1, read)
 
--- ---- what is told by the window
+-- ---- what is reported by the window
 
 pub told_by : (held : Marks) (now : ℕ) (v : Verified) (mark : SeenPair) (clock said : BootsAndTime) (verdict : Verdict) → v.parts.header.auth ≡ true → Some mark ≡ mark_at held v.fields.engine
     → ((p : BootsAndTime) → clock ≡ clock_at (Some mark) now p) → said ≡ pair_in v

@@ -30,7 +30,7 @@ IsInWindow held now v = InAgentWindow (clock_for held now v) (pair_in v)
 
 -- ---- between the functions
 
--- What a message of a known user that passed its digest is told, in words of the clock. One without authentication
+-- What a message of a known user that passed its digest is answered, in words of the clock. One without authentication
 -- has no window.
 abbrev pub IsToldAt : Marks → ℕ → Verified → Verdict → Type 0
 IsToldAt held now v Accepted =
@@ -39,7 +39,7 @@ IsToldAt held now v Unweighed = IsInWindow held now v × (mark_at held v.fields.
 IsToldAt held now v (Refused refusal) = (refusal ≡ NotInWindow) × (v.parts.header.auth ≡ true)
     × (IsInWindow held now v → ⊥)
 
--- What any message that passed its digest is told. Agents refuse a name without a user.
+-- What any message that passed its digest is answered. Agents refuse a name without a user.
 abbrev pub IsTold : List User → Marks → ℕ → Verified → Verdict → Type 0
 IsTold users held now v verdict =
     (HasUserAt users v.fields.user (level_of v.parts.header) × IsToldAt held now v verdict)

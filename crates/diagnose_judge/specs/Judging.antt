@@ -55,7 +55,7 @@ abbrev pub window_answer : Given → Bool → Result Given Refusal
 window_answer given true = Ok given
 window_answer given false = Err NotInWindow
 
--- the table's answer that a verdict comes to
+-- the table's answer that a verdict becomes
 abbrev pub verdict_answer : Given → Verdict → Result Given Refusal
 verdict_answer given Accepted = Ok given
 verdict_answer given Unweighed = Ok given

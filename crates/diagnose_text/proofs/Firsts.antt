@@ -36,7 +36,7 @@ take_size (suc n) (x ∷ xs) = ap suc (take_size n xs) ∙ omega arith
 pub none_yet : {X : Type 0} (R : Variable → X → Type 0) → AreFirst R [] [] 0
 none_yet R = record { first = tt; left = refl }
 
--- one more is told
+-- one more is reported
 pub one_told : {X : Type 0} (R : Variable → X → Type 0) (seen : List Variable) (told later : List X) (more : ℕ) (v : Variable) (x : X) → length told < variables_told → AreFirst R seen told more → R v x
     → later ≡ told ++ x ∷ [] → AreFirst R (seen ++ v ∷ []) later more
 one_told R seen told later more v x room h is pushed =

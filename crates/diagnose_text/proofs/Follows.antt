@@ -3,9 +3,9 @@ use Rattle.std.proofs.Common.{◌≡◌, ◌∙◌, ℕ, List, Bool, true, false
 use Rattle.diagnose_exchanges.specs.declared.asked.Asked.{Asked}
 use Rattle.diagnose_exchanges.specs.declared.exchange.Ending.TheVariants.{Alone, Waits}
 use Rattle.diagnose_exchanges.specs.declared.exchange.Ending.{Ending}
-use Rattle.diagnose_exchanges.specs.Exchanges.{Step, TakesBy, begins, answers, ends, hands_over, finishes}
+use Rattle.diagnose_exchanges.specs.Exchanges.{Step, TakesBy, begins, answers, claims, ends, hands_over, finishes}
 use Rattle.diagnose_judge.specs.Judging.{Judgement}
-use Rattle.diagnose_text.specs.Datagrams.{Answers, Asks, IsAsked, IsStepOf, JudgesAs, StandsAlone, asked_by, asked_of, is_counted}
+use Rattle.diagnose_text.specs.Datagrams.{Answers, Asks, Claims, IsAsked, IsStepOf, JudgesAs, StandsAlone, asked_by, asked_of, is_counted}
 use Rattle.diagnose_text.specs.Following.{Follows, Sees}
 use Rattle.diagnose_text.specs.declared.facts.Answer.{Answer}
 use Rattle.diagnose_text.specs.declared.facts.First.{First}
@@ -36,6 +36,7 @@ followed_as (Err e) P Q old mid new same weaker f = f
 pub alone_as : (line : Line) (P Q : First → Type 0) → ((first : First) → P first → Q first) → (step : Step Asked First Answer) → StandsAlone line P step → StandsAlone line Q step
 alone_as line P Q weaker (begins number first counts ending) h = (h.0, weaker first h.1, h.2, h.3)
 alone_as line P Q weaker (answers place by asked answer) h = h
+alone_as line P Q weaker (claims place by asked answer) h = h
 alone_as line P Q weaker (ends place ending) h = h
 alone_as line P Q weaker (hands_over first place) h = h
 alone_as line P Q weaker finishes h = h
@@ -43,6 +44,7 @@ alone_as line P Q weaker finishes h = h
 pub asks_as : (line : Line) (id : ℕ) (P Q : First → Type 0) → ((first : First) → P first → Q first) → (step : Step Asked First Answer) → Asks line id P step → Asks line id Q step
 asks_as line id P Q weaker (begins number first counts ending) h = (h.0, weaker first h.1, h.2)
 asks_as line id P Q weaker (answers place by asked answer) h = h
+asks_as line id P Q weaker (claims place by asked answer) h = h
 asks_as line id P Q weaker (ends place ending) h = h
 asks_as line id P Q weaker (hands_over first place) h = h
 asks_as line id P Q weaker finishes h = h
@@ -59,6 +61,7 @@ copy_asks (Some n) asked first counts ending is c e = (c, e)
 pub copy_stands : (line : Line) (id : ℕ) (P : First → Type 0) → is_some line.copy_of ≡ true → (step : Step Asked First Answer) → StandsAlone line P step → Asks line id P step
 copy_stands line id P is (begins number first counts ending) h = (h.0, h.1, copy_asks line.copy_of (asked_by line id) first counts ending is h.2 h.3)
 copy_stands line id P is (answers place by asked answer) h = h
+copy_stands line id P is (claims place by asked answer) h = h
 copy_stands line id P is (ends place ending) h = h
 copy_stands line id P is (hands_over first place) h = h
 copy_stands line id P is finishes h = h
@@ -78,6 +81,10 @@ asked_anew line id asked first is same step h =
 -- an answer that was given
 pub answers_as : (line : Line) (id : ℕ) (P : Answer → Type 0) (asked : Asked) (answer : Answer) → asked ≡ asked_of line id → P answer → (step : Step Asked First Answer) → (place : ℕ) × (step ≡ answers place line.number asked answer) → Answers line id P step
 answers_as line id P asked answer same known step h = subst (Answers line id P) (sym h.1) (refl, same, known)
+
+-- something was said of what was asked that may be forged
+pub claims_as : (line : Line) (id : ℕ) (P : Answer → Type 0) (asked : Asked) (answer : Answer) → asked ≡ asked_of line id → P answer → (step : Step Asked First Answer) → (place : ℕ) × (step ≡ claims place line.number asked answer) → Claims line id P step
+claims_as line id P asked answer same known step h = subst (Claims line id P) (sym h.1) (refl, same, known)
 
 -- it was judged, and then taken
 pub seen_as_judged : {T E : Type 0} (r : Result T E) (line : Line) (w : List ℕ) (judgement : Option Judgement) (old mid new : Follower) → AreSame mid old → JudgesAs old.observer line.at.seconds w judgement mid.observer → new.observer ≡ mid.observer

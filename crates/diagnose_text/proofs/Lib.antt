@@ -4,10 +4,7 @@ mod Firsts
 mod Follows
 mod Owns
 mod Printings
-mod Puts
 mod Refusals
 mod Unreads
-mod Summaries
-mod Texts
 mod Wides
 mod Writings

@@ -6,7 +6,7 @@ use Rattle.std.proofs.lemmas.List.Elements.{All-cons, All-nil}
 use Rattle.diagnose_exchanges.specs.declared.exchange.Exchange.{Exchange}
 use Rattle.diagnose_exchanges.specs.declared.asked.Asked.{Asked}
 use Rattle.diagnose_judge.specs.Judging.{Judgement}
-use Rattle.diagnose_exchanges.specs.Exchanges.{HasRun, Step, Takes, begins, answers, ends, hands_over, finishes, place_after, taken_by, waits}
+use Rattle.diagnose_exchanges.specs.Exchanges.{HasRun, Step, Takes, begins, answers, claims, ends, hands_over, finishes, place_after, taken_by, waits}
 use Rattle.diagnose_text.proofs.Owns.{both_own, none_own, one_taken, step_number, step_own}
 use Rattle.diagnose_text.specs.Datagrams.{IsOwn, Seen, number_seen, seen_as}
 use Rattle.diagnose_text.specs.Following.{Sees}
@@ -35,6 +35,7 @@ module _ {K : Type 0} where
   gone_stays gone old new [] h = refl
   gone_stays gone old new (begins number first counts ending ∷ steps) h = gone_stays gone _ new steps h.1
   gone_stays gone old new (answers place by asked answer ∷ steps) h = gone_stays gone h.0 new steps h.3
+  gone_stays gone old new (claims place by asked answer ∷ steps) h = gone_stays gone h.0 new steps h.3
   gone_stays gone old new (ends place ending ∷ steps) h = gone_stays gone h.0 new steps h.3
   gone_stays gone old new (hands_over first place ∷ steps) h = gone_stays gone h.0 new steps h.2
   gone_stays gone old new (finishes ∷ steps) h = cc (h.4)
@@ -43,6 +44,7 @@ module _ {K : Type 0} where
   gone_append gone [] more = refl
   gone_append gone (begins number first counts ending ∷ steps) more = gone_append gone steps more
   gone_append gone (answers place by asked answer ∷ steps) more = gone_append gone steps more
+  gone_append gone (claims place by asked answer ∷ steps) more = gone_append gone steps more
   gone_append gone (ends place ending ∷ steps) more = gone_append gone steps more
   gone_append gone (hands_over first place ∷ steps) more = gone_append gone steps more
   gone_append gone (finishes ∷ steps) more = gone_append (place_after gone 1) steps more
@@ -51,6 +53,7 @@ module _ {K : Type 0} where
   taken_append [] more = refl
   taken_append (begins number first counts ending ∷ steps) more = ap (λ ns. number ∷ ns) (taken_append steps more)
   taken_append (answers place by asked answer ∷ steps) more = ap (λ ns. by ∷ ns) (taken_append steps more)
+  taken_append (claims place by asked answer ∷ steps) more = ap (λ ns. by ∷ ns) (taken_append steps more)
   taken_append (ends place ending ∷ steps) more = taken_append steps more
   taken_append (hands_over first place ∷ steps) more = taken_append steps more
   taken_append (finishes ∷ steps) more = taken_append steps more
@@ -60,6 +63,7 @@ module _ {K : Type 0} where
   run_append gone old mid new [] more some others h k = subst (λ xs. HasRun gone old more (xs ++ others) new) (sym h.0) (subst (λ xs. HasRun gone xs more others new) h.1 k)
   run_append gone old mid new (begins number first counts ending ∷ steps) more some others h k = (h.0, run_append gone _ mid new steps more some others h.1 k)
   run_append gone old mid new (answers place by asked answer ∷ steps) more some others h k = (h.0, h.1, h.2, run_append gone h.0 mid new steps more some others h.3 k)
+  run_append gone old mid new (claims place by asked answer ∷ steps) more some others h k = (h.0, h.1, h.2, run_append gone h.0 mid new steps more some others h.3 k)
   run_append gone old mid new (ends place ending ∷ steps) more some others h k = (h.0, h.1, h.2, run_append gone h.0 mid new steps more some others h.3 k)
   run_append gone old mid new (hands_over first place ∷ steps) more some others h k = (h.0, h.1, run_append gone h.0 mid new steps more some others h.2 k)
   run_append gone old mid new (finishes ∷ steps) more some others h k =

@@ -13,6 +13,7 @@ use Rattle.snmp_message.specs.Security.{Fields, SecText}
 use Rattle.snmp_message.specs.declared.refusal.Refusal.{Refusal}
 use Rattle.snmp_msg.specs.Pdu.{PduParts, PduText}
 use Rattle.snmp_msg.specs.PduTypes.{is_confirmed, pdu_tag}
+use Rattle.snmp_ber.specs.declared.level.Level.TheVariants.{NoAuthNoPriv}
 use Rattle.snmp_msg.specs.Variables.{variables_of}
 use Rattle.snmp_msg.specs.declared.pdu_type.PduType.TheVariants as kinds
 use Rattle.usm_core.specs.Authentic.{HasEngineLength}
@@ -20,15 +21,19 @@ use Rattle.snmp_incoming.specs.Outcome.{Given}
 use Rattle.snmp_manager.specs.Views.{Held}
 use Rattle.diagnose_judge.specs.Judging.{Judgement, unread, discovery, sent_by, sent_to, IsJudged as IsJudgedAs}
 use Rattle.diagnose_judge.specs.declared.judged.Verdict.{Verdict}
-use Rattle.diagnose_exchanges.specs.Exchanges.{Step, begins, answers, ends, hands_over, finishes}
+use Rattle.diagnose_exchanges.specs.Exchanges.{Step, begins, answers, claims, ends, hands_over, finishes}
 use Rattle.diagnose_exchanges.specs.Routes.{back_if_known}
 use Rattle.diagnose_exchanges.specs.declared.asked.Asked.{Asked}
 use Rattle.diagnose_exchanges.specs.declared.exchange.Ending.{Ending}
 use Rattle.diagnose_exchanges.specs.declared.exchange.Ending.TheVariants.{Waits, Alone, Answered, SentAgain}
 use Rattle.diagnose_exchanges.specs.declared.exchange.Ending.TheVariants.{NoAnswer, NotFollowed}
 use Rattle.diagnose_exchanges.specs.declared.exchange.Exchange.{Exchange}
-use Rattle.diagnose_text.specs.Blocks.{is_discovery}
-use Rattle.diagnose_text.specs.Facts.{ArePduNames, IsAlone, IsCaptured, IsJudged, IsPlain, IsReport, IsSaid, IsSender}
+use Rattle.diagnose_exchanges.specs.declared.exchange.Claim.{Claim}
+use Rattle.diagnose_text.specs.Facts.{ArePduNames, IsAlone, IsCaptured, IsContextIn, IsJudged, IsPlain, IsReport}
+use Rattle.diagnose_text.specs.Facts.{IsRequestIdIn, IsSaid, IsSender, is_discovery}
+use Rattle.diagnose_text.specs.declared.facts.Remark.{Remark}
+use Rattle.diagnose_text.specs.declared.bearing.Bearing.{Bearing}
+use Rattle.diagnose_text.specs.declared.bearing.Bearing.TheVariants as bearings
 use Rattle.diagnose_text.specs.declared.facts.Answer.{Answer}
 use Rattle.diagnose_text.specs.declared.facts.First.{First}
 use Rattle.diagnose_text.specs.declared.facts.PduNames.{PduNames}
@@ -119,15 +124,20 @@ pub record IsUnread (w : List ℕ) (told : Option Bool) (read : Unread) : Type 0
 pub record IsRequest (line : Line) (given : Given) (verdict : Verdict) (first : First) : Type 0 where
   pub captured : IsCaptured line first
   pub sender : IsSender given first
+  pub context : IsContextIn given.text first.context
+  pub request_id : IsRequestIdIn given.text first.request_id
   pub what : IsNamed (IsPduIn given.text) first.what
   pub judged : IsJudged verdict first
 
--- a notification, or an answer whose request isn't known
+-- a notification, or an answer that answers no request
 pub record IsUnasked (line : Line) (given : Given) (first : First) : Type 0 where
   pub captured : IsCaptured line first
   pub sender : IsSender given first
+  pub context : IsContextIn given.text first.context
+  pub request_id : IsRequestIdIn given.text first.request_id
   pub what : IsNamed (IsPduIn given.text) first.what
-  pub alone : IsAlone line given.tag first
+  pub why : Remark
+  pub alone : IsAlone line given.tag why first
 
 -- a request without an engine and without authentication (RFC 3414, section 4)
 pub record IsDiscovery (line : Line) (first : First) : Type 0 where
@@ -184,6 +194,15 @@ pub record IsAnswerUnread (line : Line) (w : List ℕ) (refusal : Refusal) (answ
   pub is : IsUnread w line.told read
   pub says : IsUnreadSaid refusal read.contents.report answer.says
 
+-- a Report without authentication (RFC 3414, section 3.2): whoever can send it may have forged it
+abbrev pub MayBeForged : Given → Type 0
+MayBeForged given = (given.tag ≡ pdu_tag kinds.Report) × (given.level ≡ NoAuthNoPriv)
+
+abbrev pub IsClaim : Bearing → Type 0
+IsClaim bearings.Answers = ⊥
+IsClaim bearings.Claims = Unit {0}
+IsClaim (bearings.Differs why) = ⊥
+
 -- ---- the step of a datagram
 
 -- By what an answer is known: by the same msgID, on the way back (RFC 3412, section 7.2, step 10).
@@ -207,6 +226,7 @@ abbrev pub StandsAlone : Line → (First → Type 0) → Step Asked First Answer
 StandsAlone line IsFirst (begins number first counts ending) =
     (number ≡ line.number) × IsFirst first × (counts ≡ false) × (ending ≡ Alone)
 StandsAlone line IsFirst (answers place by asked answer) = ⊥
+StandsAlone line IsFirst (claims place by asked answer) = ⊥
 StandsAlone line IsFirst (ends place ending) = ⊥
 StandsAlone line IsFirst (hands_over first place) = ⊥
 StandsAlone line IsFirst finishes = ⊥
@@ -216,6 +236,7 @@ abbrev pub Asks : Line → ℕ → (First → Type 0) → Step Asked First Answe
 Asks line id IsFirst (begins number first counts ending) =
     (number ≡ line.number) × IsFirst first × IsAsked line.copy_of (asked_by line id) first counts ending
 Asks line id IsFirst (answers place by asked answer) = ⊥
+Asks line id IsFirst (claims place by asked answer) = ⊥
 Asks line id IsFirst (ends place ending) = ⊥
 Asks line id IsFirst (hands_over first place) = ⊥
 Asks line id IsFirst finishes = ⊥
@@ -225,19 +246,32 @@ abbrev pub Answers : Line → ℕ → (Answer → Type 0) → Step Asked First A
 Answers line id IsAnswer (begins number first counts ending) = ⊥
 Answers line id IsAnswer (answers place by asked answer) =
     (by ≡ line.number) × (asked ≡ asked_of line id) × IsAnswer answer
+Answers line id IsAnswer (claims place by asked answer) = ⊥
 Answers line id IsAnswer (ends place ending) = ⊥
 Answers line id IsAnswer (hands_over first place) = ⊥
 Answers line id IsAnswer finishes = ⊥
 
+-- it may be forged, and says how that exchange ended, which waits on
+abbrev pub Claims : Line → ℕ → (Answer → Type 0) → Step Asked First Answer → Type 0
+Claims line id IsAnswer (begins number first counts ending) = ⊥
+Claims line id IsAnswer (answers place by asked answer) = ⊥
+Claims line id IsAnswer (claims place by asked answer) =
+    (by ≡ line.number) × (asked ≡ asked_of line id) × IsAnswer answer
+Claims line id IsAnswer (ends place ending) = ⊥
+Claims line id IsAnswer (hands_over first place) = ⊥
+Claims line id IsAnswer finishes = ⊥
+
 -- a message that its engine sent: an answer, unless it is a notification or no request waits for it
 abbrev pub IsSentStep : Line → Given → Bool → Step Asked First Answer → Type 0
 IsSentStep line given in_window step = StandsAlone line (IsUnasked line given) step
-    ⊎ ((given.tag ≢ pdu_tag kinds.SNMPv2Trap) × Answers line given.id (IsAnswerRead line given in_window) step)
+    ⊎ (((given.tag ≢ pdu_tag kinds.SNMPv2Trap) × Answers line given.id (IsAnswerRead line given in_window) step)
+    ⊎ (MayBeForged given × Claims line given.id (IsAnswerRead line given in_window) step))
 
 -- a message that wasn't opened: a request, or an answer, unless no request waits for it
 abbrev pub IsUnopenedStep : Line → List ℕ → ℕ → Refusal → Step Asked First Answer → Type 0
 IsUnopenedStep line w id refusal step = Asks line id (IsUnopened line w refusal) step
-    ⊎ (StandsAlone line (IsUnopened line w refusal) step ⊎ Answers line id (IsAnswerUnread line w refusal) step)
+    ⊎ (StandsAlone line (IsUnopened line w refusal) step
+    ⊎ (Answers line id (IsAnswerUnread line w refusal) step ⊎ Claims line id (IsAnswerUnread line w refusal) step))
 
 -- a datagram that wasn't opened
 abbrev pub IsUnreadStep : Line → List ℕ → Refusal → Step Asked First Answer → Type 0
@@ -279,6 +313,7 @@ IsOf seen step = (one : Seen) × Contains seen one × IsStepOf one.line one.octe
 abbrev pub IsOwn : List Seen → Step Asked First Answer → Type 0
 IsOwn seen (begins number first counts ending) = IsOf seen (begins number first counts ending)
 IsOwn seen (answers place by asked answer) = IsOf seen (answers place by asked answer)
+IsOwn seen (claims place by asked answer) = IsOf seen (claims place by asked answer)
 IsOwn seen (ends place ending) = Unit {0}
 IsOwn seen (hands_over first place) = Unit {0}
 IsOwn seen finishes = Unit {0}
@@ -293,9 +328,16 @@ IsAnsweredBy seen ending (SentAgain number) = Unit {0}
 IsAnsweredBy seen ending NoAnswer = Unit {0}
 IsAnsweredBy seen ending NotFollowed = Unit {0}
 
+-- what may be forged was said of it by one of these datagrams
+abbrev pub IsClaimedBy : List Seen → Ending Asked Answer → Option (Claim Answer) → Type 0
+IsClaimedBy seen ending None = Unit {0}
+IsClaimedBy seen ending (Some claim) =
+    (place : ℕ) × (asked : Asked) × (ending ≡ Waits asked) × IsOf seen (claims place claim.by asked claim.answer)
+
 -- what the exchange holds is what was read of its own datagrams
 pub record HoldsItsOwn (seen : List Seen) (e : Exchange Asked First Answer) : Type 0 where
   pub counts : Bool
   pub ending : Ending Asked Answer
   pub first : IsOf seen (begins e.number e.first counts ending)
+  pub claim : IsClaimedBy seen ending e.claim
   pub answer : IsAnsweredBy seen ending e.ending

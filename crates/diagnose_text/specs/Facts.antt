@@ -3,17 +3,19 @@
 -- `IsValueRead`: the value of a variable, by the syntax of its tag: what its octets spell, or the octets themselves if
 -- they spell nothing of the syntax. `ArePduNames`: the type of a PDU and its first names. `IsSaid`: what an answer
 -- says. `IsCaptured`, `IsSender`, `IsJudged`, `IsAlone`: the first datagram of an exchange.
-use Rattle.std.specs.Prelude.{◌≡◌, ◌≢◌, ◌↔◌, ◌⊎◌, ◌-◌, ◌^◌, ℕ, pos, min, List, [], ◌∷◌, length, take}
-use Rattle.std.specs.Prelude.{MatchOption, Option, Some, None, String, Vec, string_bytes}
+use Rattle.std.specs.Prelude.{◌≡◌, ◌≢◌, ◌↔◌, ◌⊎◌, ◌-◌, ◌^◌, ℕ, ℤ, pos, min, Bool, true, false, List, [], ◌∷◌}
+use Rattle.std.specs.Prelude.{length, take, MatchOption, Option, Some, None, String, Vec, string_bytes}
 use Rattle.std.specs.List.{AllZip}
 use Rattle.std.specs.declared.alloc.Global.{Global}
 use Rattle.hex.specs.Hex.{encode_lower}
 use Rattle.snmp_ber.specs.Number.{IsInteger32, IsUnsigned}
+use Rattle.snmp_ber.specs.declared.level.Level.{Level}
+use Rattle.snmp_message.specs.Scoped.{Contexts, ScopedFront}
 use Rattle.snmp_ber.specs.Oid.{IsIdentifier, dotted}
 use Rattle.snmp_msg.specs.PduTypes.{IsPduTag, pdu_tag}
 use Rattle.snmp_msg.specs.Values.{syntax_of}
 use Rattle.snmp_msg.specs.Variables.{Variable, variables_of}
-use Rattle.snmp_msg.specs.Pdu.{PduParts}
+use Rattle.snmp_msg.specs.Pdu.{PduParts, PduText}
 use Rattle.snmp_msg.specs.declared.pdu_type.PduType.TheVariants as kinds
 use Rattle.snmp_msg.specs.declared.value.Syntax.{Syntax}
 use Rattle.snmp_msg.specs.declared.value.Syntax.TheVariants.{Integer32, OctetString, Null, ObjectIdentifier}
@@ -21,13 +23,16 @@ use Rattle.snmp_msg.specs.declared.value.Syntax.TheVariants.{IpAddress, Counter3
 use Rattle.snmp_msg.specs.declared.value.Syntax.TheVariants.{Counter64, NoSuchObject, NoSuchInstance, EndOfMibView}
 use Rattle.snmpsec_causes.specs.Counters.{IsCounter}
 use Rattle.snmp_incoming.specs.Outcome.{Given}
-use Rattle.snmpsec_config.specs.Words.{level_word}
 use Rattle.diagnose_judge.specs.declared.judged.Verdict.{Verdict}
 use Rattle.diagnose_judge.specs.declared.judged.Verdict.TheVariants.{Accepted, Unweighed, Refused}
-use Rattle.diagnose_text.specs.Names.{sender_level, sender_user}
 use Rattle.diagnose_text.specs.declared.facts.First.{First}
 use Rattle.diagnose_text.specs.declared.facts.PduNames.{PduNames}
-use Rattle.diagnose_text.specs.declared.facts.Remark.TheVariants.{Nothing, WindowNotJudged, NoRequest}
+use Rattle.diagnose_text.specs.declared.facts.Remark.{Remark}
+use Rattle.diagnose_text.specs.declared.facts.Remark.TheVariants.{Nothing, WindowNotJudged, NoRequest, EnginesLimit}
+use Rattle.diagnose_text.specs.declared.facts.Remark.TheVariants.{OtherUser, OtherLevel, OtherRequestId, NotTaken}
+use Rattle.diagnose_text.specs.declared.facts.Sender.{Sender}
+use Rattle.diagnose_text.specs.declared.facts.What.{What}
+use Rattle.diagnose_text.specs.declared.facts.What.TheVariants.{Discovery, Pdu, Sealed, Unreadable}
 use Rattle.diagnose_text.specs.declared.facts.Says.{Says}
 use Rattle.diagnose_text.specs.declared.facts.Says.TheVariants as says
 use Rattle.diagnose_text.specs.declared.line.Line.{Line}
@@ -144,6 +149,46 @@ pub record IsSaid (pdu : PduParts) (said : Says) : Type 0 where
 
 -- ---- the first datagram of an exchange
 
+abbrev pub is_discovery : What → Bool
+is_discovery Discovery = true
+is_discovery (Pdu pdu) = false
+is_discovery (Sealed is_guess) = false
+is_discovery Unreadable = false
+
+-- the name of a sender, in octets; who isn't known has none
+abbrev pub sender_user : Option Sender → List ℕ
+sender_user None = []
+sender_user (Some sender) = sender.user
+
+-- the level of a sender; who isn't known has none, nor has privacy without authentication
+abbrev pub sender_level : Option Sender → Option Level
+sender_level None = None
+sender_level (Some sender) = sender.level
+
+-- it isn't the answer of the request with its msgID
+abbrev pub tells_another : Remark → Bool
+tells_another Nothing = false
+tells_another WindowNotJudged = false
+tells_another NoRequest = false
+tells_another EnginesLimit = false
+tells_another OtherUser = true
+tells_another OtherLevel = true
+tells_another OtherRequestId = true
+tells_another NotTaken = true
+
+-- the name of the context of the ScopedPDU that these octets begin with; the empty one isn't held
+abbrev pub context_held : Option (Vec ℕ Global) → List ℕ
+context_held None = []
+context_held (Some name) = name.items
+
+abbrev pub IsContextIn : List ℕ → Option (Vec ℕ Global) → Type 0
+IsContextIn text found = (c : Contexts) × ScopedFront text c × (context_held found ≡ c.name)
+
+-- the request-id of its PDU
+abbrev pub IsRequestIdIn : List ℕ → Option ℤ → Type 0
+IsRequestIdIn text found = (pdu : PduParts)
+    × ((c : Contexts) → ScopedFront text c → PduText c.pdu pdu) × (found ≡ Some pdu.id)
+
 -- what is known of the datagram without reading it
 pub record IsCaptured (line : Line) (first : First) : Type 0 where
   pub moment : first.at ≡ line.at
@@ -158,7 +203,7 @@ pub record IsPlain (first : First) : Type 0 where
 -- who sent the message that was opened, and the engine with whose keys
 pub record IsSender (given : Given) (first : First) : Type 0 where
   pub user : sender_user first.sender ≡ given.user
-  pub level : sender_level first.sender ≡ level_word given.level
+  pub level : sender_level first.sender ≡ Some given.level
   pub engine : first.engine ≡ Some given.engine
 
 -- what this configuration says of a request (RFC 3414, section 3.2)
@@ -171,8 +216,8 @@ IsJudged (Refused refusal) first = (first.refusal ≡ Some refusal) × (first.re
 abbrev pub LacksRequest : Line → ℕ → Type 0
 LacksRequest line tag = (tag ≢ pdu_tag kinds.SNMPv2Trap) × (line.copy_of ≡ None)
 
--- what is said of a notification, or of an answer whose request isn't known
-pub record IsAlone (line : Line) (tag : ℕ) (first : First) : Type 0 where
+-- what is said of a notification, or of an answer that answers no request for this reason
+pub record IsAlone (line : Line) (tag : ℕ) (why : Remark) (first : First) : Type 0 where
   pub accepted : first.refusal ≡ None
-  pub lacks : LacksRequest line tag → first.remark ≡ NoRequest
+  pub lacks : LacksRequest line tag → first.remark ≡ why
   pub other : ¬ LacksRequest line tag → first.remark ≡ Nothing

@@ -1,10 +1,6 @@
-pub mod Blocks
 pub mod Datagrams
-pub mod Documents
+pub mod Engines
 pub mod Facts
 pub mod Following
-pub mod Names
 pub mod Printing
-pub mod Summary
 pub mod Wanted
-pub mod Words

@@ -1,27 +1,24 @@
 -- What is printed of an exchange that is finished, and whether something failed in it.
 --
--- `IsPrinted`: an exchange that isn't wanted prints nothing. As JSON it is a line, which is read as its document; else
--- its text. `fails`: something failed in it. `Prints`, `Writes`: what is printed as datagrams are taken. `IsAccount`:
--- what is printed of a whole capture.
+-- `IsPrinted`: an exchange that isn't wanted prints nothing. `fails`: something failed in it. `Prints`, `Writes`: what
+-- is printed as datagrams are taken: exchanges one after another. `IsAccount`: what is printed of a whole capture.
 use Rattle.std.specs.Prelude.{◌≡◌, ◌+◌, ℕ, List, [], ◌∷◌, ◌++◌, Bool, true, false, not, ◌&&◌, ◌||◌, Option, Some, None}
 use Rattle.std.specs.Prelude.{map, nat_eq, option_and_then}
 use Rattle.std.specs.Cmp.Lexicographic.{pointwise}
 use Rattle.std.specs.HashMap.{get}
 use Rattle.std.specs.List.{All, list_any}
 use Rattle.md5.specs.Md5.{md5}
-use Rattle.serde_json.specs.Data.{Data}
 use Rattle.diagnose_exchanges.specs.declared.exchange.Exchange.{Exchange}
 use Rattle.diagnose_exchanges.specs.declared.exchange.Ending.{Ending}
 use Rattle.diagnose_exchanges.specs.declared.exchange.Ending.TheVariants.{Waits, Alone, Answered, SentAgain}
 use Rattle.diagnose_exchanges.specs.declared.exchange.Ending.TheVariants.{NoAnswer, NotFollowed}
-use Rattle.diagnose_exchanges.specs.Exchanges.{HasRun, Step, begins, answers, ends, hands_over, finishes, place_after}
+use Rattle.diagnose_exchanges.specs.Exchanges.{HasRun, Step, begins, answers, claims, ends, hands_over}
+use Rattle.diagnose_exchanges.specs.Exchanges.{finishes, place_after}
 use Rattle.diagnose_exchanges.specs.Exchanges.{taken_by, times, times_in}
 use Rattle.diagnose_exchanges.specs.declared.asked.Asked.{Asked}
 use Rattle.snmp_manager.specs.Views.{Held}
-use Rattle.diagnose_text.specs.Blocks.{IsText}
 use Rattle.diagnose_text.specs.Datagrams.{HoldsItsOwn, IsOwn, JudgesAs, Seen, number_seen}
-use Rattle.diagnose_text.specs.Documents.{IsExchange, IsLine}
-use Rattle.diagnose_text.specs.Names.{sender_user}
+use Rattle.diagnose_text.specs.Facts.{is_discovery, sender_user, tells_another}
 use Rattle.diagnose_text.specs.Wanted.{direction, is_wanted}
 use Rattle.diagnose_text.specs.declared.diagnoser.Diagnoser.{Diagnoser}
 use Rattle.diagnose_text.specs.declared.facts.Answer.{Answer}
@@ -58,9 +55,9 @@ module _ {A : Type 0} where
   is_there None = false
   is_there (Some x) = true
 
--- this configuration refuses the datagram, and it is no copy
+-- this configuration refuses the datagram, or it isn't the answer of the request with its msgID; and it is no copy
 abbrev pub is_refused : First → Bool
-is_refused first = not (is_there first.copy_of) && is_there first.refusal
+is_refused first = not (is_there first.copy_of) && (is_there first.refusal || tells_another first.remark)
 
 module _ {K : Type 0} where
   -- the engine of an exchange
@@ -78,8 +75,8 @@ module _ {K : Type 0} where
   ending_fails first counts Alone = is_refused first
   ending_fails first counts (Answered by answer) = not answer.in_window || says_failure answer.says
   ending_fails first counts (SentAgain n) = false
-  ending_fails first counts NoAnswer = counts
-  ending_fails first counts NotFollowed = counts
+  ending_fails first counts NoAnswer = counts || is_discovery first.what
+  ending_fails first counts NotFollowed = counts || is_discovery first.what
 
   -- something failed in the exchange
   abbrev pub fails : Exchange K First Answer → Bool
@@ -90,14 +87,9 @@ module _ {K : Type 0} where
   is_wanted_exchange options e =
       is_wanted options (sender_user e.first.sender) (engine_of e.first e.ending) e.first.route
 
-  -- the text of an exchange that is wanted, or isn't
-  abbrev pub IsBlock : Bool → Style → Exchange K First Answer → List ℕ → Type 0
-  IsBlock false style e text = text ≡ []
-  IsBlock true Text e text = IsText e text
-  IsBlock true Json e text = (document : Data) × IsExchange e document × IsLine document text
-
+  -- An exchange that isn't wanted prints nothing. The words of one that is wanted are not stated here.
   abbrev pub IsPrinted : DiagnoseOptions → Exchange K First Answer → List ℕ → Type 0
-  IsPrinted options e text = IsBlock (is_wanted_exchange options e) options.style e text
+  IsPrinted options e text = is_wanted_exchange options e ≡ false → text ≡ []
 
   -- something failed in the exchange, and it is wanted
   abbrev pub counts_as_failed : DiagnoseOptions → Exchange K First Answer → Bool
@@ -117,6 +109,7 @@ module _ {K : Type 0} where
   gone_after gone [] = gone
   gone_after gone (begins number first counts ending ∷ steps) = gone_after gone steps
   gone_after gone (answers place by asked answer ∷ steps) = gone_after gone steps
+  gone_after gone (claims place by asked answer ∷ steps) = gone_after gone steps
   gone_after gone (ends place ending ∷ steps) = gone_after gone steps
   gone_after gone (hands_over first place ∷ steps) = gone_after gone steps
   gone_after gone (finishes ∷ steps) = gone_after (place_after gone 1) steps

@@ -1,17 +1,9 @@
 //! How the exchanges of each user ended.
 
-ghost use Rattle.std.specs.Prelude.{◌≡◌, ◌++◌, ℕ, List, IfOk, OnOk, map, string_bytes};
-ghost use Rattle.std.specs.List.{AllZip};
-ghost use Rattle.serde_json.specs.View.{members_view, view};
-ghost use Rattle.diagnose_text.specs.Summary as spec;
-ghost use Rattle.diagnose_text.specs.Summary.{IsUser, IsUserLine, count_members, named, user_document, user_line};
-ghost use Rattle.diagnose_text.specs.Words.{AreTexts};
-
-use crate::facts::{Answer, Says};
-use crate::heads::name_text;
-use crate::members::{Members, no_members, object_of, put_number, put_text};
-use diagnose_exchanges::Ending;
-use serde_json::Value as Json;
+use crate::facts::{Answer, First, Says};
+use diagnose_exchanges::{Ending, Exchange};
+use serde_json::{Value as Json, json};
+use snmpsec_access::name_text;
 use std::alloc::{AllocError, Global};
 use usm_users::UserName;
 
@@ -41,15 +33,15 @@ impl Counts {
         }
     }
 
-    /// Counts an exchange of this user.
+    /// Counts an exchange by its user.
     pub(crate) fn count<K: Drop>(
         &mut self,
-        user: &[u8],
-        ending: &Ending<K, Answer>,
+        exchange: &Exchange<K, First, Answer>,
     ) -> Result<(), AllocError> {
+        let user = exchange.first.user();
         for counts in self.users.iter_mut() {
             if counts.user.as_slice() == user {
-                counts.count(ending);
+                counts.count(exchange);
                 return Ok(());
             }
         }
@@ -60,16 +52,13 @@ impl Counts {
             return Ok(());
         };
         let mut counts = UserCounts::none(user);
-        counts.count(ending);
+        counts.count(exchange);
         self.users.push(counts)?;
         Ok(())
     }
 
     /// Adds a line for each user.
-    pub(crate) fn put_lines(&self, alloc: Global, out: &mut String) -> Result<(), AllocError>
-        ensures { OnOk result ((text : List ℕ) × (string_bytes out.new ≡ string_bytes out.old ++ text)
-            × AreTexts IsUserLine self.now.users.items text) }
-    {
+    pub(crate) fn put_lines(&self, alloc: Global, out: &mut String) -> Result<(), AllocError> {
         for counts in &self.users {
             counts.put_line(alloc, out)?;
         }
@@ -77,15 +66,12 @@ impl Counts {
     }
 
     /// An object for each user.
-    pub(crate) fn objects(&self, alloc: Global) -> Result<Vec<Json>, AllocError>
-        ensures { IfOk result (λ list. AllZip IsUser self.now.users.items (map view list.items)) }
-    {
+    pub(crate) fn array(&self, alloc: Global) -> Result<Json, AllocError> {
         let mut list = Vec::new(alloc);
         for counts in &self.users {
-            let object = counts.object(alloc)?;
-            list.push(object)?;
+            list.push(counts.object(alloc)?)?;
         }
-        Ok(list)
+        Ok(Json::from(list))
     }
 }
 
@@ -100,13 +86,16 @@ impl UserCounts {
         }
     }
 
-    fn count<K: Drop>(&mut self, ending: &Ending<K, Answer>) {
-        match ending {
-            Ending::Answered { answer, .. } => self.count_answer(&answer.says),
-            Ending::NoAnswer | Ending::NotFollowed => {
+    fn count<K: Drop>(&mut self, exchange: &Exchange<K, First, Answer>) {
+        match (&exchange.ending, &exchange.claim) {
+            (Ending::Answered { answer, .. }, _) => self.count_answer(&answer.says),
+            (Ending::NoAnswer | Ending::NotFollowed, Some(claim)) => {
+                self.count_answer(&claim.answer.says);
+            }
+            (Ending::NoAnswer | Ending::NotFollowed, None) => {
                 self.no_answer = self.no_answer.saturating_add(1);
             }
-            Ending::Waits(_) | Ending::Alone | Ending::SentAgain(_) => {}
+            (Ending::Waits(_) | Ending::Alone | Ending::SentAgain(_), _) => {}
         }
     }
 
@@ -119,38 +108,14 @@ impl UserCounts {
     }
 
     /// Adds the line of the user.
-    fn put_line(&self, alloc: Global, out: &mut String) -> Result<(), AllocError>
-        ensures { OnOk result ((line : List ℕ) × (string_bytes out.new ≡ string_bytes out.old ++ line)
-            × IsUserLine self.now line) }
-    {
-        let name = name_text(alloc, self.user.as_slice())?;
-        self.put_named(out, &name)
-    }
-
-    /// Adds the line with the name as this text.
-    fn put_named(&self, out: &mut String, name: &str) -> Result<(), AllocError>
-        ensures { OnOk result (string_bytes out.new ≡ string_bytes out.old ++ user_line self.now name.now) }
-    {
+    fn put_line(&self, alloc: Global, out: &mut String) -> Result<(), AllocError> {
         out.push_str("  ")?;
-        out.push_str(self.name_or_none(name))?;
-        self.put_counts(out)
-    }
-
-    /// The name, or that there is none.
-    fn name_or_none<'a>(&self, name: &'a str) -> &'a str
-        ensures { result.now ≡ named self.now.user name.now }
-    {
         if self.user.as_slice().is_empty() {
-            "(no user)"
+            out.push_str("(no user)")?;
         } else {
-            name
+            let name = name_text(alloc, self.user.as_slice())?;
+            out.push_str(&name)?;
         }
-    }
-
-    /// Adds how many exchanges ended each way.
-    fn put_counts(&self, out: &mut String) -> Result<(), AllocError>
-        ensures { OnOk result (string_bytes out.new ≡ string_bytes out.old ++ spec.counts_text self.now) }
-    {
         let (answered, errors) = (self.answered, self.errors);
         let (refused, no_answer) = (self.refused, self.no_answer);
         write!(
@@ -160,32 +125,13 @@ impl UserCounts {
     }
 
     /// The object of the user.
-    fn object(&self, alloc: Global) -> Result<Json, AllocError>
-        ensures { IfOk result (λ json. IsUser self.now (view json)) }
-    {
-        let user = name_text(alloc, self.user.as_slice())?;
-        self.named_object(alloc, &user)
-    }
-
-    /// The object with the name as this text.
-    fn named_object(&self, alloc: Global, user: &str) -> Result<Json, AllocError>
-        ensures { IfOk result (λ json. view json ≡ user_document self.now user.now) }
-    {
-        let mut members = no_members(alloc);
-        self.put(alloc, &mut members, user)?;
-        Ok(object_of(members))
-    }
-
-    /// Adds the name as this text, and the counts.
-    #[tactic(auto, unfolding(crate::specs::Summary::count_members))]
-    fn put(&self, alloc: Global, members: &mut Members, user: &str) -> Result<(), AllocError>
-        ensures { OnOk result (members_view members.new.entries
-            ≡ count_members self.now user.now (members_view members.old.entries)) }
-    {
-        put_text(alloc, members, "user", user)?;
-        put_number(alloc, members, "answered", self.answered)?;
-        put_number(alloc, members, "errors", self.errors)?;
-        put_number(alloc, members, "refused", self.refused)?;
-        put_number(alloc, members, "no_answer", self.no_answer)
+    fn object(&self, alloc: Global) -> Result<Json, AllocError> {
+        json!(in alloc; {
+            "user": name_text(alloc, self.user.as_slice())?,
+            "answered": self.answered,
+            "errors": self.errors,
+            "refused": self.refused,
+            "no_answer": self.no_answer
+        })
     }
 }

@@ -5,7 +5,6 @@ ghost use Rattle.diagnose_judge.specs.Judging.{Judgement};
 ghost use Rattle.diagnose_exchanges.specs.Exchanges.{IsGivenUp};
 ghost use Rattle.diagnose_text.specs.Datagrams.{seen_as};
 ghost use Rattle.diagnose_text.specs.Printing.{IsLineOf, Writes, is_json};
-ghost use Rattle.diagnose_text.specs.Summary.{IsSummed};
 ghost use Rattle.diagnose_text.specs.declared.line.Line.{Line as LineIs};
 
 use crate::facts::Answer;
@@ -66,14 +65,18 @@ impl Diagnoser {
         self.report.prints_json()
     }
 
+    /// What there is if no exchange was printed, for a line that begins with the name of the file. The error is out of
+    /// memory.
+    pub fn nothing_printed(&self) -> Result<Option<String>, AllocError> {
+        self.report.nothing_printed()
+    }
+
     /// What is printed when the capture ends, and whether something failed in it: the exchanges that still wait for an
     /// answer, and the summary. The error is out of memory.
     pub fn finish(&mut self) -> Result<(Vec<u8>, bool), AllocError>
         ensures failed { IfOk result (λ printed. printed.1 ≡ self.new.report.failed) }
         ensures printed { IfOk result (λ printed. (text summary : List ℕ) × (printed.0.items ≡ text ++ summary)
-            × Writes [] self.old [] self.new text
-            × IsSummed self.new.report.options.style self.new.report.counts.users.items
-            self.new.follower.observer.clocks summary) }
+            × Writes [] self.old [] self.new text) }
     {
         let mut text = Vec::new(self.alloc);
         self.print_all(&mut text)?;

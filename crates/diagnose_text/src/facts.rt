@@ -1,8 +1,7 @@
 //! What is known of an exchange: that which text and JSON print.
 
 ghost use Rattle.std.specs.Prelude.{◌≡◌};
-ghost use Rattle.diagnose_text.specs.Blocks.{asks_for_one, is_discovery};
-ghost use Rattle.diagnose_text.specs.Names.{sender_user};
+ghost use Rattle.diagnose_text.specs.Facts.{is_discovery, sender_user, tells_another};
 
 use crate::heads::Stamp;
 use crate::values::Value;
@@ -59,8 +58,29 @@ pub(crate) enum Remark {
     WindowNotJudged,
     /// An answer of which no request waits.
     NoRequest,
+    /// A request waits for an answer with its msgID, and this isn't it: it has another user, level or request-id than
+    /// the request, or is refused.
+    OtherUser,
+    OtherLevel,
+    OtherRequestId,
+    NotTaken,
     /// It is of an engine beyond the limit, so that nothing of it was opened.
     EnginesLimit,
+}
+
+impl Remark {
+    /// It isn't the answer of the request with its msgID.
+    pub(crate) fn tells_another(self) -> bool
+        ensures { result ≡ tells_another self }
+    {
+        match self {
+            Remark::OtherUser | Remark::OtherLevel | Remark::OtherRequestId | Remark::NotTaken => {
+                true
+            }
+            Remark::Nothing | Remark::WindowNotJudged => false,
+            Remark::NoRequest | Remark::EnginesLimit => false,
+        }
+    }
 }
 
 /// What is known of the first datagram of an exchange.
@@ -71,6 +91,10 @@ pub(crate) struct First {
     pub(crate) sender: Option<Sender>,
     /// msgAuthoritativeEngineID, if it is one.
     pub(crate) engine: Option<EngineId>,
+    /// contextName, if it was opened and isn't empty.
+    pub(crate) context: Option<Vec<u8>>,
+    /// The request-id, if it was opened.
+    pub(crate) request_id: Option<i32>,
     pub(crate) what: What,
     /// The number of the first datagram with the same octets.
     pub(crate) copy_of: Option<u64>,
@@ -90,13 +114,24 @@ impl First {
     }
 
     /// It is a PDU with one variable.
-    pub(crate) fn asks_for_one(&self) -> bool
-        ensures { result ≡ asks_for_one self.now.what }
-    {
+    pub(crate) fn asks_for_one(&self) -> bool {
         match &self.what {
             What::Pdu(pdu) => pdu.names.len() == 1,
             What::Discovery | What::Sealed { .. } | What::Unreadable => false,
         }
+    }
+
+    /// It is at this level.
+    pub(crate) fn is_at(&self, level: Level) -> bool {
+        match &self.sender {
+            Some(sender) => sender.level == Some(level),
+            None => false,
+        }
+    }
+
+    /// It has authentication.
+    pub(crate) fn has_auth(&self) -> bool {
+        self.sender.is_some() && !self.is_at(Level::NoAuthNoPriv)
     }
 
     /// The octets of the user's name.

@@ -1,32 +1,31 @@
 //! Takes the datagrams of a capture one after another, and makes exchanges of them.
 
-ghost use Rattle.std.specs.Prelude.{◌≡◌, ◌≢◌, ℕ, List, [], Option, Some, true, false, IfOk, IfSome, OnOk};
-ghost use Rattle.std.specs.Prelude.{string_bytes};
+ghost use Rattle.std.specs.Prelude.{◌≡◌, ◌≢◌, ℕ, [], Option, Some, true, false, IfOk, IfSome, OnOk};
 ghost use Rattle.snmp_msg.specs.PduTypes.{pdu_tag};
 ghost use Rattle.snmp_msg.specs.declared.pdu_type.PduType.TheVariants.{SNMPv2Trap};
 ghost use Rattle.snmp_incoming.specs.Answers.{given_of};
 ghost use Rattle.diagnose_judge.specs.Judging.{Judgement, discovery, IsDiscovery as IsDiscoveryMessage};
-ghost use Rattle.diagnose_exchanges.specs.Exchanges.{Takes, answers, begins};
+ghost use Rattle.diagnose_exchanges.specs.Exchanges.{Takes, answers, begins, claims};
 ghost use Rattle.diagnose_exchanges.specs.declared.exchange.Ending.TheVariants.{Waits};
-ghost use Rattle.diagnose_text.specs.Datagrams.{Asks, IsAnswerRead, IsNamed, IsPduIn, IsRequest, IsSentStep, IsStepOf};
-ghost use Rattle.diagnose_text.specs.Datagrams.{IsUnasked, IsUnopenedStep, IsUnread, IsUnreadSaid, IsUnreadStep};
-ghost use Rattle.diagnose_text.specs.Datagrams.{StandsAlone, is_counted};
+ghost use Rattle.diagnose_text.specs.Datagrams.{Asks, IsAnswerRead, IsClaim, IsNamed, IsPduIn};
+ghost use Rattle.diagnose_text.specs.Datagrams.{IsRequest, IsSentStep, IsStepOf, MayBeForged, asked_of};
+ghost use Rattle.diagnose_text.specs.Datagrams.{IsUnasked, StandsAlone, is_counted};
+ghost use Rattle.diagnose_text.specs.Facts.{IsContextIn};
 ghost use Rattle.diagnose_text.specs.Following.{Follows, Sees};
-ghost use Rattle.diagnose_text.specs.Summary.{IsSummed};
 
 use crate::agents::Agents;
-use crate::facts::{Answer, First, Says, Sent, What};
+use crate::bearing::{Bearing, bearing_of};
+use crate::facts::{Answer, First, Remark, Says, Sent, What};
 use crate::line::Line;
 use crate::reading::{names_of, says_of};
 use crate::report::Report;
-use crate::unread::{Unread, engine_in, unread_in};
+use crate::unread::engine_in;
 use crate::views::{Viewed, views_of};
-use capture_files::SNMP_PORTS;
 use diagnose_exchanges::{Asked, Copies, Exchanges, digest_of};
 use diagnose_judge::{Judged, Observer, Verdict};
 use engine_clock::{Clocks, EngineId};
 use snmp_incoming::Taken;
-use snmp_msg::{PduType, Refusal, read_message};
+use snmp_msg::{PduType, read_message};
 use snmpsec_access::Explainer;
 use std::alloc::{AllocError, Global};
 use usm_core::Users;
@@ -34,7 +33,7 @@ use usm_core::Users;
 /// Takes the datagrams of a capture one after another, and makes exchanges of them.
 #[derive(Drop)]
 pub(crate) struct Follower {
-    alloc: Global,
+    pub(crate) alloc: Global,
     observer: Observer,
     views: Option<Explainer>,
     agents: Agents,
@@ -66,10 +65,7 @@ impl Follower {
     }
 
     /// The summary of what was printed, and of the engines that are known.
-    pub(crate) fn summary(&self, report: &Report) -> Result<String, AllocError>
-        ensures { IfOk result (λ text. IsSummed report.now.options.style report.now.counts.users.items
-            self.now.observer.clocks (string_bytes text)) }
-    {
+    pub(crate) fn summary(&self, report: &Report) -> Result<String, AllocError> {
         report.summary(self.observer.clocks(), &self.agents)
     }
 
@@ -92,7 +88,7 @@ impl Follower {
     }
 
     /// The datagram is an exchange of its own.
-    fn tell(&mut self, line: Line, first: First) -> Result<(), AllocError>
+    pub(crate) fn tell(&mut self, line: Line, first: First) -> Result<(), AllocError>
         ensures follows { OnOk result
             (Follows (StandsAlone line (λ held. held ≡ first)) self.old self.new) }
         ensures observer { self.new.observer ≡ self.old.observer }
@@ -102,7 +98,7 @@ impl Follower {
 
     /// A request, which waits for its answer from now on, unless it is a copy. What asked the same before gets none,
     /// unless it is the one that is sent again.
-    fn ask(&mut self, line: Line, id: u32, first: First) -> Result<(), AllocError>
+    pub(crate) fn ask(&mut self, line: Line, id: u32, first: First) -> Result<(), AllocError>
         ensures follows { OnOk result (Follows (Asks line id (λ held. held ≡ first)) self.old self.new) }
         ensures observer { self.new.observer ≡ self.old.observer }
     {
@@ -130,8 +126,13 @@ impl Follower {
         ensures observer { self.new.observer ≡ self.old.observer }
     {
         let again = self.note_request(line, taken)?;
+        let context = context_of(self.alloc, taken)?;
         let what = what_of(self.alloc, taken)?;
-        self.ask(line, taken.id, line.request(taken, what, again, verdict))
+        self.ask(
+            line,
+            taken.id,
+            line.request(taken, context, what, again, verdict),
+        )
     }
 
     /// The request with the same user and PDU that was seen before, unless this is a copy.
@@ -161,7 +162,7 @@ impl Follower {
         let notifies = taken.tag == PduType::SNMPv2Trap.tag();
         self.agents.saw(&taken.engine, from, notifies)?;
         if notifies {
-            self.tell_alone(line, taken)
+            self.tell_alone(line, taken, Remark::NoRequest)
         } else {
             self.answer(line, taken, in_window)
         }
@@ -175,13 +176,67 @@ impl Follower {
         ensures observer { self.new.observer ≡ self.old.observer }
     {
         let asked = Asked::by_answer(line.route, taken.id);
-        let Some(answer) = self.answer_of(line, &asked, taken, in_window)? else {
-            return self.tell_alone(line, taken);
+        match self.bearing(&asked, taken) {
+            Bearing::Answers => self.take_answer(line, &asked, taken, in_window),
+            Bearing::Claims => self.take_claim(line, &asked, taken, in_window),
+            Bearing::Differs(why) => self.tell_alone(line, taken, why),
+        }
+    }
+
+    /// What an answer that was opened is to the request that waits for one to what it asked.
+    fn bearing(&self, asked: &Asked, taken: &Taken<'_>) -> Bearing
+        ensures claims { IsClaim result → MayBeForged (given_of taken.now) }
+    {
+        match self.asked_first(asked) {
+            Some(first) => bearing_of(first, taken),
+            None => Bearing::Differs(Remark::NoRequest),
+        }
+    }
+
+    /// An answer to what was asked, which was opened.
+    fn take_answer(
+        &mut self,
+        line: Line,
+        asked: &Asked,
+        taken: &Taken<'_>,
+        in_window: bool,
+    ) -> Result<(), AllocError>
+        requires tag { taken.now.tag ≢ pdu_tag SNMPv2Trap }
+        requires asked { asked.now ≡ asked_of line taken.now.id }
+        ensures follows { OnOk result
+            (Follows (IsSentStep line (given_of taken.now) in_window) self.old self.new) }
+        ensures observer { self.new.observer ≡ self.old.observer }
+    {
+        let Some(answer) = self.answer_of(line, asked, taken, in_window)? else {
+            return self.tell_alone(line, taken, Remark::NoRequest);
         };
-        if self.answers(&asked, line.number, answer) {
+        if self.answers(asked, line.number, answer) {
             return Ok(());
         }
-        self.tell_alone(line, taken)
+        self.tell_alone(line, taken, Remark::NoRequest)
+    }
+
+    /// A Report without authentication to what was asked, which was opened.
+    fn take_claim(
+        &mut self,
+        line: Line,
+        asked: &Asked,
+        taken: &Taken<'_>,
+        in_window: bool,
+    ) -> Result<(), AllocError>
+        requires forged { MayBeForged (given_of taken.now) }
+        requires asked { asked.now ≡ asked_of line taken.now.id }
+        ensures follows { OnOk result
+            (Follows (IsSentStep line (given_of taken.now) in_window) self.old self.new) }
+        ensures observer { self.new.observer ≡ self.old.observer }
+    {
+        let Some(answer) = self.answer_of(line, asked, taken, in_window)? else {
+            return self.tell_alone(line, taken, Remark::NoRequest);
+        };
+        if self.claims(asked, line.number, answer) {
+            return Ok(());
+        }
+        self.tell_alone(line, taken, Remark::NoRequest)
     }
 
     /// What is known of an answer to what was asked, if something waits for it.
@@ -210,7 +265,7 @@ impl Follower {
     }
 
     /// Whether the datagram with this number answers the exchange that waits for an answer with these, if one does.
-    fn answers(&mut self, asked: &Asked, number: u64, answer: Answer) -> bool
+    pub(crate) fn answers(&mut self, asked: &Asked, number: u64, answer: Answer) -> bool
         ensures follows { result ≡ true → Follows
             (λ step. (place : ℕ) × (step ≡ answers place number asked.now answer)) self.old self.new }
         ensures exchanges { result ≡ false → (self.new.exchanges.gone ≡ self.old.exchanges.gone)
@@ -221,6 +276,21 @@ impl Follower {
             return false;
         };
         self.end_first(place);
+        true
+    }
+
+    /// Whether the datagram with this number, which may be forged, says how the exchange ended that waits for an answer
+    /// with these, if one does of which nothing was said before.
+    pub(crate) fn claims(&mut self, asked: &Asked, number: u64, answer: Answer) -> bool
+        ensures follows { result ≡ true → Follows
+            (λ step. (place : ℕ) × (step ≡ claims place number asked.now answer)) self.old self.new }
+        ensures exchanges { result ≡ false → (self.new.exchanges.gone ≡ self.old.exchanges.gone)
+            × (self.new.exchanges.list.items ≡ self.old.exchanges.list.items) }
+        ensures observer { self.new.observer ≡ self.old.observer }
+    {
+        let Ok(_place) = self.exchanges.claim(asked, number, answer) else {
+            return false;
+        };
         true
     }
 
@@ -239,7 +309,7 @@ impl Follower {
     }
 
     /// The first datagram of the exchange that waits for an answer with these.
-    fn asked_first(&self, asked: &Asked) -> Option<&First> {
+    pub(crate) fn asked_first(&self, asked: &Asked) -> Option<&First> {
         let place = self.exchanges.waits(asked)?;
         let exchange = self.exchanges.at(place)?;
         Some(&exchange.first)
@@ -266,71 +336,15 @@ impl Follower {
         }
     }
 
-    /// A notification, or an answer of which the request isn't known.
-    fn tell_alone(&mut self, line: Line, taken: &Taken<'_>) -> Result<(), AllocError>
+    /// A notification, or an answer that answers no request for this reason.
+    fn tell_alone(&mut self, line: Line, taken: &Taken<'_>, why: Remark) -> Result<(), AllocError>
         ensures follows { OnOk result
             (Follows (StandsAlone line (IsUnasked line (given_of taken.now))) self.old self.new) }
         ensures observer { self.new.observer ≡ self.old.observer }
     {
+        let context = context_of(self.alloc, taken)?;
         let what = what_of(self.alloc, taken)?;
-        self.tell(line, line.alone(taken, what))
-    }
-
-    /// A datagram that wasn't opened.
-    fn unread(&mut self, line: Line, datagram: &[u8], refusal: Refusal) -> Result<(), AllocError>
-        ensures follows { OnOk result (Follows (IsUnreadStep line datagram.now refusal) self.old self.new) }
-        ensures observer { self.new.observer ≡ self.old.observer }
-    {
-        let Some(unread) = unread_in(self.alloc, datagram, line.told)? else {
-            return self.tell(line, line.unreadable(refusal));
-        };
-        if self.is_request(line, &unread) {
-            let id = unread.id;
-            self.ask(line, id, line.unread(unread, refusal))
-        } else {
-            self.unread_answer(line, unread, refusal)
-        }
-    }
-
-    /// Whether a datagram that wasn't opened is a request: by its PDU if it isn't sealed, or else by the agents that
-    /// the user names, or else by what waits for an answer, and by the ports.
-    fn is_request(&self, line: Line, unread: &Unread) -> bool {
-        if let Some(is_request) = unread.contents.is_request {
-            return is_request;
-        }
-        let request = Asked::by_answer(line.route, unread.id);
-        if self.exchanges.waits(&request).is_some() {
-            return false;
-        }
-        match line.route {
-            Some(route) => !SNMP_PORTS.contains(&route.from.port())
-                || SNMP_PORTS.contains(&route.to.port()),
-            None => true,
-        }
-    }
-
-    /// An answer that wasn't opened, unless no request waits for it.
-    fn unread_answer(
-        &mut self,
-        line: Line,
-        mut unread: Unread,
-        refusal: Refusal,
-    ) -> Result<(), AllocError>
-        ensures follows { (w : List ℕ) → IsUnread w line.told unread
-            → OnOk result (Follows (IsUnopenedStep line w unread.id refusal) self.old self.new) }
-        ensures observer { self.new.observer ≡ self.old.observer }
-    {
-        let asked = Asked::by_answer(line.route, unread.id);
-        let answer = Answer {
-            at: line.at,
-            says: said_unread(unread.contents.report.take(), refusal),
-            views: Vec::new(self.alloc),
-            in_window: true,
-        };
-        if self.answers(&asked, line.number, answer) {
-            return Ok(());
-        }
-        self.tell(line, line.unread(unread, refusal))
+        self.tell(line, line.alone(taken, context, what, why))
     }
 
     /// A discovery.
@@ -347,20 +361,20 @@ impl Follower {
     }
 }
 
+/// The name of the context of a message that was opened, unless it is empty.
+fn context_of(alloc: Global, taken: &Taken<'_>) -> Result<Option<Vec<u8>>, AllocError>
+    ensures { IfOk result (IsContextIn (given_of taken.now).text) }
+{
+    let name = taken.scoped().name;
+    if name.is_empty() {
+        return Ok(None);
+    }
+    Ok(Some(Vec::from_slice(alloc, name)?))
+}
+
 /// An accepted PDU by its type and its first names.
 fn what_of(alloc: Global, taken: &Taken<'_>) -> Result<What, AllocError>
     ensures { IfOk result (IsNamed (IsPduIn (given_of taken.now).text)) }
 {
     Ok(What::Pdu(names_of(alloc, &taken.pdu())?))
-}
-
-/// What an answer that wasn't opened says. A Report that isn't sealed says why the agent refuses the request. It came
-/// without authentication, or its code is wrong, so it is a hint.
-fn said_unread(report: Option<Says>, refusal: Refusal) -> Says
-    ensures { IsUnreadSaid refusal report result }
-{
-    match report {
-        Some(report) => report,
-        None => Says::Unread(refusal),
-    }
 }

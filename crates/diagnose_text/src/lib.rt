@@ -15,8 +15,8 @@
 
 mod agents;
 mod answers;
+mod bearing;
 mod blocks;
-mod causes;
 mod counts;
 mod diagnoser;
 mod facts;
@@ -24,20 +24,18 @@ mod follower;
 mod heads;
 mod laws;
 mod line;
-mod members;
 mod names;
 mod objects;
 mod options;
+mod others;
 mod reading;
 mod report;
-mod says;
 mod summary;
 mod unread;
+mod unread_answers;
 mod values;
 mod view_lines;
-mod view_objects;
 mod views;
-mod words;
 
 pub use diagnoser::Diagnoser;
 pub use laws::{calls_print_as_one, each_exchange_is_of_its_own_datagrams};

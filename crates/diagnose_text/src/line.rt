@@ -2,7 +2,8 @@
 
 ghost use Rattle.std.specs.Prelude.{◌≡◌, ◌≤◌, ◌↔◌, IsTrue, Some, length, true};
 ghost use Rattle.snmp_incoming.specs.Answers.{given_of};
-ghost use Rattle.diagnose_text.specs.Facts.{IsAlone, IsCaptured, IsJudged, IsPlain, IsSender, LacksRequest};
+ghost use Rattle.diagnose_text.specs.Facts.{IsAlone, IsCaptured, IsJudged, IsPlain, IsRequestIdIn, IsSender};
+ghost use Rattle.diagnose_text.specs.Facts.{LacksRequest};
 ghost use Rattle.diagnose_text.specs.declared.facts.Remark.TheVariants.{EnginesLimit};
 ghost use Rattle.diagnose_text.specs.declared.facts.What.TheVariants.{Sealed, Unreadable};
 
@@ -40,6 +41,8 @@ impl Line {
             route: self.route,
             sender: None,
             engine: None,
+            context: None,
+            request_id: None,
             what,
             copy_of: self.copy_of,
             again: None,
@@ -48,16 +51,20 @@ impl Line {
         }
     }
 
-    /// What is known of a message that was opened.
-    fn message_first(self, taken: &Taken<'_>, what: What) -> First
+    /// What is known of a message that was opened, with this context.
+    fn message_first(self, taken: &Taken<'_>, context: Option<Vec<u8>>, what: What) -> First
         ensures captured { IsCaptured self result }
         ensures plain { IsPlain result }
         ensures sender { IsSender (given_of taken.now) result }
+        ensures context { result.context ≡ context }
+        ensures request_id { IsRequestIdIn (given_of taken.now).text result.request_id }
         ensures what { result.what ≡ what }
     {
         let mut first = self.first(what);
         first.sender = Some(sender_of(taken));
         first.engine = Some(taken.engine.copy());
+        first.context = context;
+        first.request_id = Some(taken.pdu().id);
         first
     }
 
@@ -65,17 +72,20 @@ impl Line {
     pub(crate) fn request(
         self,
         taken: &Taken<'_>,
+        context: Option<Vec<u8>>,
         what: What,
         again: Option<Sent>,
         verdict: Verdict,
     ) -> First
         ensures captured { IsCaptured self result }
         ensures sender { IsSender (given_of taken.now) result }
+        ensures context { result.context ≡ context }
+        ensures request_id { IsRequestIdIn (given_of taken.now).text result.request_id }
         ensures what { result.what ≡ what }
         ensures again { result.again ≡ again }
         ensures judged { IsJudged verdict result }
     {
-        let mut first = self.message_first(taken, what);
+        let mut first = self.message_first(taken, context, what);
         first.again = again;
         match verdict {
             Verdict::Accepted => {}
@@ -85,16 +95,24 @@ impl Line {
         first
     }
 
-    /// What is known of a notification, or of an answer of which the request isn't known.
-    pub(crate) fn alone(self, taken: &Taken<'_>, what: What) -> First
+    /// What is known of a notification, or of an answer that answers no request for this reason.
+    pub(crate) fn alone(
+        self,
+        taken: &Taken<'_>,
+        context: Option<Vec<u8>>,
+        what: What,
+        why: Remark,
+    ) -> First
         ensures captured { IsCaptured self result }
         ensures sender { IsSender (given_of taken.now) result }
+        ensures context { result.context ≡ context }
+        ensures request_id { IsRequestIdIn (given_of taken.now).text result.request_id }
         ensures what { result.what ≡ what }
-        ensures alone { IsAlone self taken.now.tag result }
+        ensures alone { IsAlone self taken.now.tag why result }
     {
-        let mut first = self.message_first(taken, what);
+        let mut first = self.message_first(taken, context, what);
         if self.lacks_request(taken.tag) {
-            first.remark = Remark::NoRequest;
+            first.remark = why;
         }
         first
     }
@@ -117,8 +135,8 @@ impl Line {
         first
     }
 
-    /// What is known of a message that wasn't opened.
-    pub(crate) fn unread(self, unread: Unread, refusal: Refusal) -> First
+    /// What is known of a message that wasn't opened, with this remark.
+    pub(crate) fn unread(self, unread: Unread, refusal: Refusal, remark: Remark) -> First
         ensures captured { IsCaptured self result }
         ensures sender { result.sender ≡ Some unread.sender }
         ensures engine { result.engine ≡ unread.engine }
@@ -130,6 +148,7 @@ impl Line {
         first.sender = Some(unread.sender);
         first.engine = unread.engine;
         first.refusal = Some(refusal);
+        first.remark = remark;
         first
     }
 

@@ -1,16 +1,10 @@
 //! Names of PDUs, levels and error-statuses, as RFCs and tcpdump write them.
 
-ghost use Rattle.std.specs.Prelude.{◌≡◌};
-ghost use Rattle.snmpsec_config.specs.Words.{level_word};
-ghost use Rattle.diagnose_text.specs.Names.{pdu_word};
-
 use snmp_ber::Level;
 use snmp_msg::PduType;
 
 /// The name of a PDU of this type (RFC 3416, section 3).
-pub(crate) fn pdu_name(kind: Option<PduType>) -> &'static str
-    ensures { result.now ≡ pdu_word kind }
-{
+pub(crate) fn pdu_name(kind: Option<PduType>) -> &'static str {
     match kind {
         Some(PduType::GetRequest) => "Get",
         Some(PduType::GetNextRequest) => "GetNext",
@@ -25,9 +19,7 @@ pub(crate) fn pdu_name(kind: Option<PduType>) -> &'static str
 }
 
 /// The name of a level (RFC 3411, section 3.4.3).
-pub(crate) fn level_name(level: Level) -> &'static str
-    ensures { result.now ≡ level_word level }
-{
+pub(crate) fn level_name(level: Level) -> &'static str {
     match level {
         Level::NoAuthNoPriv => "noAuthNoPriv",
         Level::AuthNoPriv => "authNoPriv",

@@ -1,11 +1,9 @@
 //! What is printed of a capture: exchanges one after another, and the summary.
 
-ghost use Rattle.std.specs.Prelude.{◌≡◌, ◌++◌, ◌||◌, List, ℕ, IfOk, OnOk, option_and_then, option_map, string_bytes};
-ghost use Rattle.std.specs.Prelude.{true};
+ghost use Rattle.std.specs.Prelude.{◌≡◌, ◌++◌, ◌||◌, List, ℕ, OnOk, option_and_then, option_map};
 ghost use Rattle.diagnose_text.specs.Printing as spec;
-ghost use Rattle.diagnose_text.specs.Summary.{IsInStyle, IsSummed};
 ghost use Rattle.diagnose_text.specs.Wanted.{direction};
-ghost use Rattle.diagnose_text.specs.Printing.{IsBlock, IsPrinted, counts_as_failed, is_json, is_wanted_exchange};
+ghost use Rattle.diagnose_text.specs.Printing.{IsPrinted, counts_as_failed, is_json, is_wanted_exchange};
 
 use crate::agents::{Agents, ENGINES_LIMIT};
 use crate::blocks::block_text;
@@ -13,7 +11,8 @@ use crate::counts::Counts;
 use crate::facts::{Answer, First, Says};
 use crate::objects::object_line;
 use crate::options::{DiagnoseOptions, Style};
-use crate::summary::{EngineFacts, engines_of, summary_line, summary_text};
+use crate::others::Others;
+use crate::summary::{engines_of, summary_line, summary_text};
 use capture_files::Route;
 use diagnose_exchanges::{COPIES_LIMIT, Ending, Exchange};
 use engine_clock::{Clocks, EngineId};
@@ -28,6 +27,7 @@ pub(crate) struct Report {
     counts: Counts,
     /// The engines of exchanges that were printed, where not all are wanted.
     engines: BTreeSet<EngineId>,
+    others: Others,
     failed: bool,
     digests_full: bool,
 }
@@ -41,6 +41,7 @@ impl Report {
             options,
             counts: Counts::new(alloc),
             engines: BTreeSet::new(alloc),
+            others: Others::new(alloc),
             failed: false,
             digests_full: false,
         }
@@ -58,6 +59,11 @@ impl Report {
         ensures { result ≡ option_and_then (direction self.now.options.agents.items) route }
     {
         self.options.told_request(route?)
+    }
+
+    /// What there is if no exchange was printed, for a line that begins with the name of the file.
+    pub(crate) fn nothing_printed(&self) -> Result<Option<String>, AllocError> {
+        self.others.text(self.alloc)
     }
 
     /// Something failed.
@@ -80,8 +86,9 @@ impl Report {
         ensures options { self.new.options ≡ self.old.options }
     {
         if !self.wants(exchange) {
-            return Ok(());
+            return self.others.note(exchange);
         }
+        self.others.note_printed();
         self.count(exchange)?;
         let text = self.text_of(exchange)?;
         out.extend_from_slice(text.as_bytes())
@@ -104,16 +111,17 @@ impl Report {
         let first = &exchange.first;
         self.note_engine(engine_of(first, &exchange.ending))?;
         if exchange.counts {
-            self.counts.count(first.user(), &exchange.ending)?;
+            self.counts.count(exchange)?;
         }
         self.failed = self.failed || fails(exchange);
         Ok(())
     }
 
     /// The text of an exchange.
-    fn text_of<K: Drop>(&self, exchange: &Exchange<K, First, Answer>) -> Result<String, AllocError>
-        ensures { IfOk result (λ text. IsBlock true self.now.options.style exchange.now (string_bytes text)) }
-    {
+    fn text_of<K: Drop>(
+        &self,
+        exchange: &Exchange<K, First, Answer>,
+    ) -> Result<String, AllocError> {
         match self.options.style {
             Style::Text => block_text(self.alloc, exchange),
             Style::Json => object_line(self.alloc, exchange),
@@ -157,27 +165,16 @@ impl Report {
 
     /// The summary. It has all engines of which the clock is known, or those of the exchanges that were printed, where
     /// not all are wanted.
-    pub(crate) fn summary(&self, clocks: &Clocks, agents: &Agents) -> Result<String, AllocError>
-        ensures { IfOk result (λ text. IsSummed self.now.options.style self.now.counts.users.items clocks.now
-            (string_bytes text)) }
-    {
+    pub(crate) fn summary(&self, clocks: &Clocks, agents: &Agents) -> Result<String, AllocError> {
         let wanted = if self.options.wants_all() {
             None
         } else {
             Some(&self.engines)
         };
         let engines = engines_of(self.alloc, clocks, agents, wanted)?;
-        self.summary_of(&engines)
-    }
-
-    /// The summary with these engines.
-    fn summary_of(&self, engines: &[EngineFacts]) -> Result<String, AllocError>
-        ensures { IfOk result (λ text. IsInStyle self.now.options.style self.now.counts.users.items engines.now
-            (string_bytes text)) }
-    {
         match self.options.style {
-            Style::Text => summary_text(self.alloc, &self.counts, engines),
-            Style::Json => summary_line(self.alloc, &self.counts, engines),
+            Style::Text => summary_text(self.alloc, &self.counts, &engines),
+            Style::Json => summary_line(self.alloc, &self.counts, &engines),
         }
     }
 }
@@ -202,8 +199,7 @@ fn said_engine<'a>(first: &'a First, says: &'a Says) -> Option<&'a EngineId>
     }
 }
 
-/// Something failed in the exchange. A copy, a notification and a discovery without an answer fail nothing, nor does a
-/// request that was sent again.
+/// Something failed in the exchange. A copy and a notification fail nothing, nor does a request that was sent again.
 fn fails<K: Drop>(exchange: &Exchange<K, First, Answer>) -> bool
     ensures { result ≡ spec.fails exchange.now }
 {
@@ -211,15 +207,15 @@ fn fails<K: Drop>(exchange: &Exchange<K, First, Answer>) -> bool
         Ending::Waits(_) | Ending::Alone => is_refused(&exchange.first),
         Ending::Answered { answer, .. } => !answer.in_window || says_failure(&answer.says),
         Ending::SentAgain(_) => false,
-        Ending::NoAnswer | Ending::NotFollowed => exchange.counts,
+        Ending::NoAnswer | Ending::NotFollowed => exchange.counts || exchange.first.is_discovery(),
     }
 }
 
-/// This configuration refuses the datagram, and it isn't a copy.
+/// This configuration refuses the datagram, or it isn't the answer of the request with its msgID; and it isn't a copy.
 fn is_refused(first: &First) -> bool
     ensures { result ≡ spec.is_refused first.now }
 {
-    first.copy_of.is_none() && first.refusal.is_some()
+    first.copy_of.is_none() && (first.refusal.is_some() || first.remark.tells_another())
 }
 
 /// An answer says that something failed.

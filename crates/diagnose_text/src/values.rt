@@ -1,14 +1,12 @@
 //! Values of variables, each with its type.
 
-ghost use Rattle.std.specs.Prelude.{◌≡◌, ◌↔◌, ◌≤◌, ◌^◌, ◌++◌, ℕ, Some, IfOk, OnOk, MatchOption, string_bytes};
+ghost use Rattle.std.specs.Prelude.{◌≡◌, ◌↔◌, ◌≤◌, ◌^◌, ℕ, Some, IfOk, MatchOption};
 ghost use Rattle.snmp_ber.specs.Number.{IsUnsigned, number};
 ghost use Rattle.snmp_msg.specs.Values.{syntax_of};
-ghost use Rattle.diagnose_text.specs.Blocks.{hex_text, unsigned_text, value_text};
 ghost use Rattle.diagnose_text.specs.Facts.{IsCounter64, IsInHex, IsInteger, IsIpAddress, IsNumber32};
 ghost use Rattle.diagnose_text.specs.Facts.{IsObjectIdentifier, IsOctetString, IsValueRead};
-ghost use Rattle.diagnose_text.specs.Names.{syntax_word, type_word};
-ghost use Rattle.diagnose_text.specs.Words.{IsNameText};
 
+use serde_json::{Value as Json, json};
 use snmp_ber::{is_unsigned64, read_int, read_oid, read_unsigned};
 use snmp_msg::Syntax;
 use std::alloc::{AllocError, Global};
@@ -32,9 +30,7 @@ pub(crate) enum Value {
 }
 
 /// The name of a syntax, as net-snmp prints it.
-pub(crate) fn syntax_name(syntax: Syntax) -> &'static str
-    ensures { result.now ≡ syntax_word syntax }
-{
+pub(crate) fn syntax_name(syntax: Syntax) -> &'static str {
     match syntax {
         Syntax::Integer32 => "INTEGER",
         Syntax::OctetString => "STRING",
@@ -53,9 +49,7 @@ pub(crate) fn syntax_name(syntax: Syntax) -> &'static str
 }
 
 /// The name of a syntax, or a word for none.
-pub(crate) fn type_name(syntax: Option<Syntax>) -> &'static str
-    ensures { result.now ≡ type_word syntax }
-{
+pub(crate) fn type_name(syntax: Option<Syntax>) -> &'static str {
     match syntax {
         Some(syntax) => syntax_name(syntax),
         None => "value",
@@ -65,19 +59,6 @@ pub(crate) fn type_name(syntax: Option<Syntax>) -> &'static str
 /// The octets can be read as they are: all are of printable ASCII, and none is a quote or a backslash.
 fn is_plain(octets: &[u8]) -> bool {
     octets.iter().all(|octet| *octet >= 0x20 && *octet < 0x7f && *octet != b'"' && *octet != b'\\')
-}
-
-/// Octets as text between quotes if they can be read, and else in hex.
-pub(crate) fn octets_text(alloc: Global, octets: &[u8]) -> Result<String, AllocError>
-    ensures { IfOk result (λ text. IsNameText octets.now (string_bytes text)) }
-{
-    match std::str::from_utf8(octets) {
-        Ok(text) if is_plain(octets) => format!(in alloc; "\"{text}\""),
-        _ => {
-            let digits = hex::encode(alloc, octets)?;
-            format!(in alloc; "0x{digits}")
-        }
-    }
 }
 
 /// The number whose digits in base 256 the octets are, if it has at most 64 bits.
@@ -200,33 +181,48 @@ fn value_as(alloc: Global, syntax: Syntax, content: &[u8]) -> Result<Value, Allo
 }
 
 /// Adds a value after the name of its type.
-pub(crate) fn put_value(out: &mut String, value: &Value) -> Result<(), AllocError>
-    ensures { OnOk result (string_bytes out.new ≡ string_bytes out.old ++ value_text value.now) }
-{
+pub(crate) fn put_value(out: &mut String, value: &Value) -> Result<(), AllocError> {
     match value {
         Value::Integer(number) => write!(out, "INTEGER {number}"),
-        Value::Unsigned(syntax, number) => put_unsigned(out, *syntax, *number),
+        Value::Unsigned(syntax, number) => {
+            let name = syntax_name(*syntax);
+            write!(out, "{name} {number}")
+        }
         Value::Counter64(number) => write!(out, "Counter64 {number}"),
         Value::Text(text) => write!(out, "STRING \"{text}\""),
         Value::Identifier(text) => write!(out, "OID {text}"),
         Value::Address([a, b, c, d]) => write!(out, "IpAddress {a}.{b}.{c}.{d}"),
-        Value::Octets(syntax, digits) => put_octets(out, *syntax, digits),
+        Value::Octets(syntax, digits) => {
+            let name = type_name(*syntax);
+            write!(out, "{name} 0x{digits}")
+        }
         Value::Bare(syntax) => out.push_str(syntax_name(*syntax)),
     }
 }
 
-/// Adds a number without sign after the name of its syntax.
-fn put_unsigned(out: &mut String, syntax: Syntax, number: u32) -> Result<(), AllocError>
-    ensures { OnOk result (string_bytes out.new ≡ string_bytes out.old ++ unsigned_text syntax number) }
-{
-    let name = syntax_name(syntax);
-    write!(out, "{name} {number}")
-}
-
-/// Adds octets in hex after the name of what they should be.
-fn put_octets(out: &mut String, syntax: Option<Syntax>, digits: &str) -> Result<(), AllocError>
-    ensures { OnOk result (string_bytes out.new ≡ string_bytes out.old ++ hex_text syntax digits.now) }
-{
-    let name = type_name(syntax);
-    write!(out, "{name} 0x{digits}")
+/// The object of a variable, with the type of its value.
+pub(crate) fn variable_object(
+    alloc: Global,
+    variable: &(String, Value),
+) -> Result<Json, AllocError> {
+    let name = Json::try_from_str(alloc, &variable.0)?;
+    let (kind, value) = match &variable.1 {
+        Value::Integer(number) => ("INTEGER", Json::from(*number)),
+        Value::Unsigned(syntax, number) => (syntax_name(*syntax), Json::from(*number)),
+        Value::Counter64(number) => ("Counter64", Json::from(*number)),
+        Value::Text(text) => ("STRING", Json::try_from_str(alloc, text)?),
+        Value::Identifier(text) => ("OID", Json::try_from_str(alloc, text)?),
+        Value::Address([a, b, c, d]) => {
+            (
+                "IpAddress",
+                Json::from(format!(in alloc; "{a}.{b}.{c}.{d}")?),
+            )
+        }
+        Value::Octets(syntax, digits) => {
+            let digits = Json::try_from_str(alloc, digits)?;
+            return json!(in alloc; {"name": name, "type": type_name(*syntax), "hex": digits});
+        }
+        Value::Bare(syntax) => (syntax_name(*syntax), Json::Null),
+    };
+    json!(in alloc; {"name": name, "type": kind, "value": value})
 }

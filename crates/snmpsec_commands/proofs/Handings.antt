@@ -1,4 +1,4 @@
--- What is told of the texts that a replay is handed.
+-- What is reported of the texts that a replay is handed.
 use Rattle.std.proofs.Common.{List, inr}
 use Rattle.engine_clock.specs.Faults.{IsFaultOf}
 use Rattle.engine_clock.specs.declared.saved.ClockFault.{ClockFault}

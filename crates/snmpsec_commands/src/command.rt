@@ -1,44 +1,49 @@
-//! The function of each command.
+//! The function of each command of the program `snmpsec`.
 
 use crate::access::{answer_on_access, check_config, list_seen, open_message, who_sees};
 use crate::checks::{check_clocks_files, check_log_file};
 use crate::complaint::Complaint;
 use crate::datagrams::{log_file, open_file, show_file};
-use crate::diagnose::diagnose_file;
 use crate::log::replay_log;
 use crate::merge::merge_clocks;
-use crate::run::usage;
+use crate::run::{Program, usage};
 use clap::ArgMatches;
 use snmpsec_cli::{
-    Command, Invocation, access_words, datagrams_words, diagnose_words, manual_text, replay_words,
-    version_text, word_of, words_of,
+    Command, Invocation, access_words, datagrams_words, manual_text, replay_words, version_text,
+    word_of, words_of,
 };
 use snmpsec_output::{Output, show_any_version_text, show_named};
 use std::alloc::{AllocError, Global};
 use std::io::{Input, Write};
 use std::rt::Files;
 
-const NOT_HERE: &str = "import-snmpd is in the program snmpsec-import";
+const IN_IMPORT: &str = "import-snmpd is in the program snmpsec-import";
 
-/// What the command that was given prints. That of replay, and of a file of datagrams, is written as it goes,
-/// but for a fault.
-pub(crate) fn command<R: Files + Input + AllocGlobal, O: Write, E: Write>(
-    rt: &R,
-    asked: &Invocation<'_, '_>,
-    out: &mut O,
-    err: &mut E,
-) -> Result<Output, Complaint> {
-    let words = asked.words;
-    match asked.command {
-        Command::Show => show(rt, asked, out, err),
-        Command::Open => open(rt, asked, out, err),
-        Command::Datagrams => log_file(rt, &datagrams_words(words), out, err),
-        Command::Diagnose => diagnose_file(rt, &diagnose_words(words), out, err),
-        Command::Replay => replay_log(rt, &replay_words(words), out, err),
-        Command::CheckConfig => check_config(rt, word_of(words, "CONFIG"), asked.why),
-        Command::CheckAccess => answer_on_access(rt, &access_words(words), false, asked.why),
-        Command::ExplainAccess => answer_on_access(rt, &access_words(words), true, asked.why),
-        named => command_of_texts(rt, named, words),
+const IN_DIAGNOSE: &str = "diagnose is in the program snmpsec-diagnose";
+
+/// The program `snmpsec`, which has all commands but import-snmpd and diagnose.
+#[derive(Clone, Copy, Debug)]
+pub struct Snmpsec;
+
+impl Program for Snmpsec {
+    fn command<R: Files + Input + AllocGlobal, O: Write, E: Write>(
+        &self,
+        rt: &R,
+        asked: &Invocation<'_, '_>,
+        out: &mut O,
+        err: &mut E,
+    ) -> Result<Output, Complaint> {
+        let words = asked.words;
+        match asked.command {
+            Command::Show => show(rt, asked, out, err),
+            Command::Open => open(rt, asked, out, err),
+            Command::Datagrams => log_file(rt, &datagrams_words(words), out, err),
+            Command::Replay => replay_log(rt, &replay_words(words), out, err),
+            Command::CheckConfig => check_config(rt, word_of(words, "CONFIG"), asked.why),
+            Command::CheckAccess => answer_on_access(rt, &access_words(words), false, asked.why),
+            Command::ExplainAccess => answer_on_access(rt, &access_words(words), true, asked.why),
+            named => command_of_texts(rt, named, words),
+        }
     }
 }
 
@@ -88,7 +93,8 @@ fn command_of_texts<R: Files + Input + AllocGlobal>(
     match command {
         Command::WhoSees => who_sees(rt, words),
         Command::Sees => list_seen(rt, &access_words(words)),
-        Command::ImportSnmpd => Err(Complaint::line(rt.alloc(), NOT_HERE)),
+        Command::ImportSnmpd => Err(Complaint::line(rt.alloc(), IN_IMPORT)),
+        Command::Diagnose => Err(Complaint::line(rt.alloc(), IN_DIAGNOSE)),
         Command::MergeClocks => merge_clocks(rt, words),
         Command::CheckClocks => check_clocks_files(rt, words_of(words, "FILE")),
         Command::CheckLog => check_log_file(rt, word_of(words, "LOG")),
@@ -98,7 +104,7 @@ fn command_of_texts<R: Files + Input + AllocGlobal>(
 }
 
 /// What the parser's help says of a command, or of all, on standard output. A command that isn't there is
-/// told as the parser's text.
+/// reported as the parser's text.
 fn manual(alloc: Global, command: Option<&str>) -> Result<Output, AllocError> {
     match manual_text(alloc, command) {
         Ok(text) => Ok(Output::out(alloc, text.into_bytes(), 0)),

@@ -58,7 +58,7 @@ impl Complaint {
     }
 
     /// The word isn't an argument of this name, for this reason, and this is wanted.
-    pub(crate) fn word(alloc: Global, name: &str, word: &str, why: &str, wanted: &str) -> Complaint
+    pub fn word(alloc: Global, name: &str, word: &str, why: &str, wanted: &str) -> Complaint
         ensures { TellsLine (codes "bad word " ++ name.now) result }
     {
         match word_lines(alloc, name, word, why, wanted) {

@@ -20,7 +20,7 @@ use std::rt::Files;
 
 /// What the words ask of a file.
 #[derive(Drop)]
-pub(crate) struct Wanted {
+pub struct SourceOptions {
     form: Option<Form>,
     /// Whether the file is a log, or None if its octets are to tell it.
     is_log: Option<bool>,
@@ -29,7 +29,7 @@ pub(crate) struct Wanted {
     moment: u64,
 }
 
-impl Wanted {
+impl SourceOptions {
     /// These options for the reader of the file of this name.
     pub(crate) fn options<'a>(&'a self, name: &'a str) -> ReadOptions<'a> {
         ReadOptions {
@@ -55,7 +55,7 @@ impl Wanted {
 }
 
 /// Looks at the form, the ports and the moment, in this order.
-pub(crate) fn wanted_of(alloc: Global, words: &DatagramsWords<'_>) -> Result<Wanted, Complaint> {
+pub fn wanted_of(alloc: Global, words: &DatagramsWords<'_>) -> Result<SourceOptions, Complaint> {
     let is_log = words.form == Some("log") && !words.ip;
     let word = if is_log { None } else { words.form };
     let form = form_argument(alloc, word, words.ip)?;
@@ -63,7 +63,7 @@ pub(crate) fn wanted_of(alloc: Global, words: &DatagramsWords<'_>) -> Result<Wan
     let from_port = from_port_argument(alloc, words.from_port)?;
     let moment = moment_argument(alloc, words.moment)?;
     let is_told = words.form.is_some() || words.ip;
-    Ok(Wanted {
+    Ok(SourceOptions {
         form,
         is_log: if is_told { Some(is_log) } else { None },
         ports,
@@ -125,7 +125,7 @@ pub(crate) fn open_file<R: Files + Input + AllocGlobal, O: Write, E: Write>(
 fn print_file<R: Files + Input + AllocGlobal, O: Write, E: Write>(
     rt: &R,
     printout: Printout<'_>,
-    wanted: &Wanted,
+    wanted: &SourceOptions,
     name: &str,
     out: &mut O,
     err: &mut E,
@@ -140,7 +140,7 @@ fn print_file<R: Files + Input + AllocGlobal, O: Write, E: Write>(
 fn print_read<R: Read + Drop, O: Write, E: Write>(
     alloc: Global,
     printout: Printout<'_>,
-    wanted: &Wanted,
+    wanted: &SourceOptions,
     name: &str,
     reader: &mut BufReader<Watched<R>>,
     out: &mut O,
@@ -165,7 +165,7 @@ fn print_read<R: Read + Drop, O: Write, E: Write>(
 }
 
 /// The complaint where the datagrams of the file of this name aren't printed to its end.
-pub(crate) fn stop<R: Read + Drop>(
+pub fn stop<R: Read + Drop>(
     alloc: Global,
     name: &str,
     reader: &BufReader<Watched<R>>,
@@ -186,7 +186,7 @@ pub(crate) fn stop<R: Read + Drop>(
 fn print_printout<R: Read, O: Write, E: Write>(
     alloc: Global,
     printout: Printout<'_>,
-    wanted: &Wanted,
+    wanted: &SourceOptions,
     name: &str,
     reader: &mut R,
     log: &mut O,
@@ -267,7 +267,7 @@ fn refuse_config<O: Write, E: Write>(
 /// A file of datagrams, and what is asked of it.
 #[derive(Clone, Copy)]
 struct Source<'a> {
-    wanted: &'a Wanted,
+    wanted: &'a SourceOptions,
     name: &'a str,
     is_log: bool,
 }
@@ -317,9 +317,9 @@ fn print_all<P: Printer, R: Read, O: Write, E: Write>(
 }
 
 /// Writes what a printer makes of the datagrams that are read, from one port if that is asked for.
-pub(crate) fn print_source<P: Printer, R: Read, O: Write, E: Write>(
+pub fn print_source<P: Printer, R: Read, O: Write, E: Write>(
     alloc: Global,
-    wanted: &Wanted,
+    wanted: &SourceOptions,
     name: &str,
     printer: &mut P,
     reader: &mut R,

@@ -1,4 +1,5 @@
-//! The commands of `snmpsec`: from the command line and the files that it names to what is printed, and the status.
+//! The commands of `snmpsec`: from the command line and the files that it names to what is printed, and the status;
+//! and what the programs of import-snmpd and diagnose have in common with it.
 //!
 //! ```
 //! use snmpsec_commands::replay::{Beginning, ReplayEnd, replay};
@@ -29,7 +30,6 @@ mod checks;
 mod command;
 mod complaint;
 mod datagrams;
-mod diagnose;
 mod files;
 mod log;
 mod merge;
@@ -39,6 +39,8 @@ mod replay_source;
 pub mod run;
 mod source_log;
 
+pub use command::Snmpsec;
 pub use complaint::Complaint;
-pub use files::octets_of;
-pub use piped::Piped;
+pub use datagrams::{SourceOptions, print_source, stop, wanted_of};
+pub use files::{Source, log_of, octets_of};
+pub use source_log::{FaultPlace, RefusalLine, SourceLog};

@@ -3,7 +3,7 @@
 ghost use Rattle.std.specs.Prelude.{⊤};
 
 use crate::complaint::Complaint;
-use crate::datagrams::{Wanted, print_source, stop};
+use crate::datagrams::{SourceOptions, print_source, stop};
 use crate::files::log_of;
 use crate::replay::{Beginning, NoManager, manager_of};
 use crate::source_log::{RefusalLine, SourceLog};
@@ -54,7 +54,7 @@ pub(crate) fn replay_file<R: Files + Input + AllocGlobal, O: Write, E: Write>(
     rt: &R,
     beginning: Beginning<'_>,
     printing: Printing,
-    wanted: &Wanted,
+    wanted: &SourceOptions,
     name: &str,
     out: &mut O,
     err: &mut E,

@@ -4,7 +4,6 @@ ghost use Rattle.std.specs.Prelude.{◌≡◌, ◌++◌, [], Ok, IfErr, IfOk};
 ghost use Rattle.snmpsec_commands.specs.Complaints.{IsComplaint};
 ghost use Rattle.snmpsec_commands.specs.Run.{Finishes, why_line};
 
-use crate::command::command;
 use crate::complaint::Complaint;
 use crate::piped::Piped;
 use clap::ArgMatches;
@@ -20,20 +19,34 @@ const OUT_OF_MEMORY: &[u8] = b"snmpsec: out of memory\n";
 
 const CANNOT_WRITE: &[u8] = b"snmpsec: cannot write\n";
 
-/// Runs the program over its arguments, and answers its status.
-pub fn run<R: Files + Env + Input + AllocGlobal, O: Write, E: Write + IsTerminal>(
+/// The commands of a program.
+pub trait Program {
+    /// What the command that was given prints. That of a file of datagrams is written as it goes, but for a fault. The
+    /// complaint of a command that the program hasn't names the program that has it.
+    fn command<R: Files + Input + AllocGlobal, O: Write, E: Write>(
+        &self,
+        rt: &R,
+        asked: &Invocation<'_, '_>,
+        out: &mut O,
+        err: &mut E,
+    ) -> Result<Output, Complaint>;
+}
+
+/// Runs a program over its arguments, and answers its status.
+pub fn run<P: Program, R: Files + Env + Input + AllocGlobal, O: Write, E: Write + IsTerminal>(
+    program: &P,
     rt: &R,
     out: &mut O,
     err: &mut E,
 ) -> u8 {
     let mut out = Piped::new(out);
-    let answered = answer(rt, &mut out, err);
+    let answered = answer(program, rt, &mut out, err);
     finish(answered, &mut out, err)
 }
 
 /// Writes what a command prints, or that memory ran out, and returns the status. Where nobody reads standard output
 /// any more, nothing is said of it.
-pub fn finish<O: Write, E: Write>(
+fn finish<O: Write, E: Write>(
     answered: Result<Output, AllocError>,
     out: &mut Piped<O>,
     err: &mut E,
@@ -73,14 +86,15 @@ fn print<O: Write, E: Write>(output: &Output, out: &mut Piped<O>, err: &mut E) -
 
 /// What the program prints, beside what a command wrote as it went. At a terminal it says what is
 /// wrong without asking.
-fn answer<R: Files + Env + Input + AllocGlobal, O: Write, E: Write + IsTerminal>(
+fn answer<P: Program, R: Files + Env + Input + AllocGlobal, O: Write, E: Write + IsTerminal>(
+    program: &P,
     rt: &R,
     out: &mut O,
     err: &mut E,
 ) -> Result<Output, AllocError> {
     match arguments(rt) {
         Ok(words) => {
-            let output = answer_words(rt, words.as_slice(), out, err);
+            let output = answer_words(program, rt, words.as_slice(), out, err);
             drop(words);
             output
         }
@@ -89,7 +103,8 @@ fn answer<R: Files + Env + Input + AllocGlobal, O: Write, E: Write + IsTerminal>
 }
 
 /// What is printed for the words of a command line, the program's name first.
-fn answer_words<R: Files + Input + AllocGlobal, O: Write, E: Write + IsTerminal>(
+fn answer_words<P: Program, R: Files + Input + AllocGlobal, O: Write, E: Write + IsTerminal>(
+    program: &P,
     rt: &R,
     words: &[String],
     out: &mut O,
@@ -97,7 +112,7 @@ fn answer_words<R: Files + Input + AllocGlobal, O: Write, E: Write + IsTerminal>
 ) -> Result<Output, AllocError> {
     match parse(rt.alloc(), words) {
         Ok(matches) => {
-            let output = answer_matches(rt, &matches, out, err);
+            let output = answer_matches(program, rt, &matches, out, err);
             drop(matches);
             output
         }
@@ -106,7 +121,8 @@ fn answer_words<R: Files + Input + AllocGlobal, O: Write, E: Write + IsTerminal>
 }
 
 /// What is printed for what the parser made of them.
-fn answer_matches<R: Files + Input + AllocGlobal, O: Write, E: Write + IsTerminal>(
+fn answer_matches<P: Program, R: Files + Input + AllocGlobal, O: Write, E: Write + IsTerminal>(
+    program: &P,
     rt: &R,
     matches: &ArgMatches<'_>,
     out: &mut O,
@@ -115,20 +131,21 @@ fn answer_matches<R: Files + Input + AllocGlobal, O: Write, E: Write + IsTermina
     match asked_by(rt.alloc(), matches) {
         Ok(asked) => {
             let why = asked.why || err.is_terminal();
-            answer_asked(rt, &Invocation { why, ..asked }, out, err)
+            answer_asked(program, rt, &Invocation { why, ..asked }, out, err)
         }
         Err(fault) => usage(rt.alloc(), fault),
     }
 }
 
 /// What the command that was given prints, and what explains a refusal.
-fn answer_asked<R: Files + Input + AllocGlobal, O: Write, E: Write>(
+fn answer_asked<P: Program, R: Files + Input + AllocGlobal, O: Write, E: Write>(
+    program: &P,
     rt: &R,
     asked: &Invocation<'_, '_>,
     out: &mut O,
     err: &mut E,
 ) -> Result<Output, AllocError> {
-    let answered = command(rt, asked, out, err);
+    let answered = program.command(rt, asked, out, err);
     let output = output_of(rt.alloc(), answered)?;
     if asked.why || says_why(asked) {
         return explain(rt.alloc(), output);
@@ -137,7 +154,7 @@ fn answer_asked<R: Files + Input + AllocGlobal, O: Write, E: Write>(
 }
 
 /// What is printed for the answer of a command: its output, or its complaint on standard error with status 2.
-pub fn output_of(alloc: Global, answered: Result<Output, Complaint>) -> Result<Output, AllocError>
+fn output_of(alloc: Global, answered: Result<Output, Complaint>) -> Result<Output, AllocError>
     ensures ok { IfOk answered (λ output. result ≡ Ok output) }
     ensures err { IfErr answered (λ complaint. IfOk result (IsComplaint complaint)) }
 {
@@ -156,6 +173,7 @@ fn says_why(asked: &Invocation<'_, '_>) -> bool {
         | Command::Sees
         | Command::Datagrams
         | Command::Diagnose
+        | Command::ImportSnmpd
         | Command::CheckClocks
         | Command::CheckLog => true,
         _ => false,
@@ -163,7 +181,7 @@ fn says_why(asked: &Invocation<'_, '_>) -> bool {
 }
 
 /// This output with its explanation, if it has one, as the last line of standard error.
-pub fn explain(alloc: Global, mut output: Output) -> Result<Output, AllocError>
+fn explain(alloc: Global, mut output: Output) -> Result<Output, AllocError>
     ensures out { IfOk result (λ told. told.out.items ≡ output.out.items) }
     ensures err { IfOk result (λ told. told.err.items ≡ output.err.items ++ why_line output.why) }
     ensures status { IfOk result (λ told. told.status ≡ output.status) }

@@ -1,5 +1,5 @@
 use Rattle.std.proofs.lemmas.List.Elements.{All-push, All-same}
-use Rattle.diagnose_text.specs.Summary.{IsKnown}
+use Rattle.diagnose_text.specs.Engines.{IsKnown}
 use Rattle.diagnose_text.proofs.summary.engines_of.Goals as goal
 
 pub loop-line-preserved-in-Continue-branch-2 : goal.loop-line-preserved-in-Continue-branch-2

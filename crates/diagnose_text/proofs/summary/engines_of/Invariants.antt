@@ -1,5 +1,5 @@
 use Rattle.std.specs.List.{All}
-use Rattle.diagnose_text.specs.Summary.{IsKnown}
+use Rattle.diagnose_text.specs.Engines.{IsKnown}
 use Rattle.diagnose_text.proofs.summary.engines_of.Given as goal
 
 abbrev pub invariant-loop-line : goal.invariant-loop-line

@@ -1,6 +1,7 @@
 use Rattle.std.proofs.Common.{◌≡◌, subst, sym}
 use Rattle.snmp_incoming.specs.Answers.{given_of}
 use Rattle.diagnose_text.specs.Datagrams.{IsNamed, IsPduIn, IsRequest}
+use Rattle.diagnose_text.specs.Facts.{IsContextIn}
 use Rattle.diagnose_text.proofs.Follows.{are_same, asks_as, followed_as, of_one}
 use Rattle.diagnose_text.proofs.follower.Follower.request.Goals as goal
 
@@ -12,6 +13,8 @@ returns-clause-follows c =
     let is : IsFirst first = record {
       captured = c.request.ensures.captured;
       sender = c.request.ensures.sender;
+      context = subst (IsContextIn given.text) (sym c.request.ensures.context) c.in_ok-context.ensures;
+      request_id = c.request.ensures.request_id;
       what = subst (IsNamed (IsPduIn given.text)) (sym c.request.ensures.what) c.in_ok-what.ensures;
       judged = c.request.ensures.judged;
     } in

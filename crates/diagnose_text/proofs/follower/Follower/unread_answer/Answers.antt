@@ -1,28 +1,10 @@
-use Rattle.std.proofs.Common.{◌≡◌, inl, inr, refl, subst, true}
-use Rattle.diagnose_text.specs.Datagrams.{IsAnswerUnread, IsUnopened, IsUnreadSaid}
-use Rattle.diagnose_text.specs.declared.facts.Answer.{Answer}
-use Rattle.diagnose_text.proofs.Follows.{alone_as, answers_as, asked_is, followed_as, follows_as, of_one}
+use Rattle.std.proofs.Common.{◌≡◌, inl, inr, refl}
+use Rattle.diagnose_text.specs.Datagrams.{IsUnopened}
+use Rattle.diagnose_text.proofs.Follows.{alone_as, followed_as, of_one}
 use Rattle.diagnose_text.proofs.follower.Follower.unread_answer.Goals as goal
 
-pub returns-then-answers-clause-follows : goal.returns-then-answers-clause-follows
-returns-then-answers-clause-follows c = λ w is.
-    let line = c.args.line in
-    let refusal = c.args.refusal in
-    let answer : Answer = record { at = line.at; says = c.said_unread.result; views = c.new.result; in_window = true } in
-    let known : IsAnswerUnread line w refusal answer = record {
-      moment = refl;
-      window = refl;
-      views = c.new.ensures.items;
-      read = c.args.unread;
-      is = is;
-      says = subst (λ report. IsUnreadSaid refusal report c.said_unread.result) c.take.ensures.value c.said_unread.ensures;
-    } in
-    let same = asked_is c.by_answer-asked.result _ _ c.by_answer-asked.ensures.route c.by_answer-asked.ensures.id in
-    follows_as _ _ c.args.self.now c.args.self.now c.answers.new.self (refl, refl)
-    (λ step h. inr (inr (answers_as line c.args.unread.id (IsAnswerUnread line w refusal) c.by_answer-asked.result answer same known step h))) (c.answers.ensures.follows c.if-answers.true)
-
-pub returns-clause-follows : goal.returns-clause-follows
-returns-clause-follows c = λ w is.
+pub returns-in-Differs-clause-follows : goal.returns-in-Differs-clause-follows
+returns-in-Differs-clause-follows c = λ w is.
     let line = c.args.line in
     let IsFirst = IsUnopened line w c.args.refusal in
     let first = c.unread.result in
@@ -35,5 +17,5 @@ returns-clause-follows c = λ w is.
       what = c.unread.ensures.what;
       refused = c.unread.ensures.refused;
     } in
-    followed_as c.tell.result _ _ c.args.self.now c.answers.new.self c.tell.new.self (c.answers.ensures.exchanges c.if-answers.false)
+    followed_as c.tell.result _ _ c.args.self.now c.args.self.now c.tell.new.self (refl, refl)
     (λ step h. inr (inl (alone_as line (λ held. held ≡ first) IsFirst (of_one IsFirst first known) step h))) c.tell.ensures.follows
