@@ -1,4 +1,4 @@
--- What is told of rows beside which others count. Of each index one row counts; snmpd holds the others too,
+-- What is reported of rows beside which others count. Of each index one row counts; snmpd holds the others too,
 -- and each of them has its note.
 --
 -- `TellsSeconds lines held kept told`. A note stands on each user in whose place a later line makes another
@@ -38,7 +38,7 @@ IsBeside {R} order place_of kept row So at =
 
 -- ---- users
 
--- a later line makes a user of the same name, in the place of this one
+-- a later line makes a user of the same name, instead of this one
 abbrev pub IsSecondUser : Item → List Item → Kind → Type 0
 IsSecondUser item later kind =
     (created : Created) × (created_in item.made ≡ Some created) × MakeUser later created.name.items × (kind ≡ Ignored)

@@ -9,7 +9,7 @@ use Rattle.std.specs.Prelude.{Option, Some, None, String, string_bytes}
 use Rattle.std.specs.List.{slice_get}
 use Rattle.std.specs.Char.{is_ascii_alphanumeric}
 use Rattle.std.specs.declared.alloc.Global.{Global}
-use Rattle.snmpsec_access.specs.Words.{quoted}
+use Rattle.snmpsec_access.specs.NameText.{quoted}
 use Rattle.snmpsec_config.specs.Words.{level_word}
 use Rattle.snmpd_tables.specs.declared.rows.Place.{Place}
 use Rattle.snmpd_tables.specs.declared.rows.Place.TheVariants as places

@@ -1,4 +1,4 @@
--- What is told of each line that isn't a row, and of each row that isn't printed.
+-- What is reported of each line that isn't a row, and of each row that isn't printed.
 --
 -- `tells item`. The place and the kind of the note on a line, none on a row that is as it looks, on an empty
 -- line and on one that begins a section (`kind_of`). `IsSerious`: with such a note the configuration may not
@@ -111,7 +111,7 @@ kind_of made.NotText = Some LeftOut
 kind_of (made.Include include) = Some (include_kind include)
 kind_of (made.Followed followed) = Some (followed_kind followed)
 
--- what is told: where, and of what kind
+-- what is reported: where, and of what kind
 abbrev pub told_of : Told → Place × Kind
 told_of told = (told.place, told.kind)
 
@@ -123,11 +123,11 @@ tells_kind place (Some kind) = (place, kind) ∷ []
 abbrev pub tells : Item → List (Place × Kind)
 tells item = tells_kind item.place (kind_of item.made)
 
--- a line that changed a row of another index than its own is told
+-- a line that changed a row of another index than its own is reported
 abbrev pub change_told : Change → Place × Kind
 change_told change = (change.place, Differs)
 
--- a row that snmpd chooses for messages for which RFC 3415 comes to other views is told
+-- a row that snmpd chooses for messages for which RFC 3415 results in other views is reported
 abbrev pub difference_told : Difference → Place × Kind
 difference_told difference = (difference.place, Differs)
 

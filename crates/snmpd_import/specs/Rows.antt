@@ -3,7 +3,7 @@
 -- `ComesTo items contexts text told`. The users and the rows that count after what the lines mean
 -- (`AreKept`), with these contexts, are what the text says (`Prints`): it is a configuration with these
 -- users (`AreUsersOf`), whose tables are those rows, row by row (`AreTablesOf`). An access row that names the
--- view `none` names no view, if no view has that name (`ArePrinted`). `TellsAll`: what is told of lines, of
+-- view `none` names no view, if no view has that name (`ArePrinted`). `TellsAll`: what is reported of lines, of
 -- rows that lines changed, of second rows, of users who share a group, and of other choices of snmpd.
 use Rattle.std.specs.Prelude.{◌≡◌, ◌<◌, ℕ, Bool, true, false, List, [], ◌++◌, length, get_or, map, codes, Contains}
 use Rattle.std.specs.List.{flat_map}
@@ -107,9 +107,9 @@ compared held kept = record {
   kept = kept.access.items;
 }
 
--- What is told, in this order: of each of the lines that makes no row, or one that isn't as it looks; of each that
+-- What is reported, in this order: of each of the lines that makes no row, or one that isn't as it looks; of each that
 -- changed a row of another index than its own; of rows beside which others count; of users who share a group that
--- snmpd has named; and of each row that snmpd chooses for messages for which RFC 3415 comes to other views, over
+-- snmpd has named; and of each row that snmpd chooses for messages for which RFC 3415 results in other views, over
 -- the rows that are kept.
 pub record TellsAll (lines : List Item) (held : HeldTables) (kept : KeptRows)
     (told : List (Place × Kind)) : Type 0 where
@@ -122,7 +122,7 @@ pub record TellsAll (lines : List Item) (held : HeldTables) (kept : KeptRows)
   pub tells : told ≡ flat_map tells_of lines ++ map change_told held.changes ++ second ++ shared
       ++ map difference_told differences
 
--- The lines come to the text, and this is told of them: the rows that count after what they mean, with these
+-- The lines come to the text, and this is reported of them: the rows that count after what they mean, with these
 -- contexts, are what the text says, as they are printed.
 pub record ComesTo (items : List Item) (contexts : List ContextRow) (text : List ℕ)
     (told : List (Place × Kind)) : Type 0 where

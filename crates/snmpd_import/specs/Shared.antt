@@ -1,4 +1,4 @@
--- What is told of users who share a group. snmpd names the group of a simple line's user after the user, and
+-- What is reported of users who share a group. snmpd names the group of a simple line's user after the user, and
 -- users whose names are alike have one group.
 --
 -- `TellsSharers lines told`. A note stands on each line that puts a user into a group that it doesn't name

@@ -7,6 +7,7 @@ ghost use Rattle.snmpd_import.specs.Included.{NamesNone};
 use snmpd_tables::{Followed, Include, Item, Made, Place, read_items};
 use snmpsec_io::{FILE_LIMIT, FileFault, read_file, read_whole};
 use std::alloc::{AllocError, Global};
+use std::fs;
 use std::rt::Files;
 
 /// How deep files may name one another, as in snmpd.
@@ -73,6 +74,16 @@ impl Sources {
     }
 }
 
+/// Returns the octets of a regular file. Anything else, such as a FIFO or a device, isn't opened: nobody may ever write
+/// to it. It is CannotRead, as is a file that can't be opened or read, or is too long. The other error is OutOfMemory.
+fn read_regular<R: Files + AllocGlobal>(rt: &R, path: &str) -> Result<Vec<u8>, FileFault> {
+    match fs::metadata(rt, path) {
+        Ok(found) if found.is_file() => read_file(rt, path),
+        Ok(_) => Err(FileFault::CannotRead),
+        Err(fault) => Err(FileFault::from(fault)),
+    }
+}
+
 /// Puts a file in place of the line that names it.
 fn follow_file<R: Files + AllocGlobal>(
     rt: &R,
@@ -83,7 +94,7 @@ fn follow_file<R: Files + AllocGlobal>(
     if sources.names.len() >= FILES_MAX {
         return sources.tell(line, Followed::TooDeep);
     }
-    match read_file(rt, path) {
+    match read_regular(rt, path) {
         Ok(text) => {
             sources.tell(line, Followed::Read)?;
             sources.put(rt.alloc(), path, &text)

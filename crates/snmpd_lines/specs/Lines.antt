@@ -3,7 +3,7 @@
 --
 -- `IsLine section text line`. What a line is where this section is in force. It is read up to its first
 -- octet 0 (`IsBeforeNul`) and begins with a word (`BeginsWith`). `HasDirective`: the word is a directive of
--- the section in force, or stands behind a section's name in brackets.
+-- the section in force, or follows a section's name in brackets.
 use Rattle.std.specs.Prelude.{◌≡◌, ◌⊎◌, ℕ, List, [], ◌∷◌, ◌++◌, codes, Option, Some, None, option_map}
 use Rattle.snmp_ber.specs.Splits.{Lacks, IsSplit}
 use Rattle.snmpd_lines.specs.Words.{GoesOn, TakesWord}

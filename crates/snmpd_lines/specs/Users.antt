@@ -26,7 +26,7 @@ use Rattle.snmpd_lines.specs.declared.users.Created.{Created}
 
 -- ---- the name
 
--- the name, behind an option and an engine ID or alone; where nothing stands behind a word, the word stays
+-- the name, behind an option and an engine ID or alone; where nothing follows a word, the word stays
 abbrev pub HasName : List ℕ → Option (List ℕ) → Bool → List ℕ → Option (List ℕ) → Type 0
 HasName word behind false name later = (word ≢ codes "-e") × (name ≡ word) × (later ≡ behind)
 HasName word behind true name later =
@@ -55,7 +55,7 @@ TakesHash word text found = (IsDefault text × (found ≡ Some Md5)) ⊎ ((IsDef
 abbrev pub TakesCipher : List ℕ → Option Cipher → Type 0
 TakesCipher word found = (IsDefault word × (found ≡ Some Des)) ⊎ ((IsDefault word → ⊥) × IsCipher word found)
 
--- the key itself stands behind the word
+-- the key itself follows the word
 abbrev pub IsKeyOption : List ℕ → Type 0
 IsKeyOption word = (word ≡ codes "-l") ⊎ (word ≡ codes "-m")
 
@@ -77,7 +77,7 @@ IsCopy _ _ = ⊥
 
 -- ---- authentication
 
--- the hash, and what stands behind it
+-- the hash, and what follows it
 abbrev pub HasHash : List ℕ → Hash → List ℕ → Type 0
 HasHash text hash rest = (word : List ℕ) × TakesWord 1023 text word (Some rest) × TakesHash word rest (Some hash)
 
@@ -125,7 +125,7 @@ HasPrivacyBehind authentication (Passphrase passphrase) (Some text) None = ⊥
 HasPrivacyBehind authentication (Passphrase passphrase) None privacy = privacy ≡ None
 HasPrivacyBehind authentication Key text privacy = privacy ≡ None
 
--- what stands behind the name
+-- what follows the name
 abbrev pub HasProtection : Option (List ℕ) → Protection → Type 0
 HasProtection None protection = (protection.authentication ≡ None) × (protection.privacy ≡ None)
 HasProtection (Some text) protection =

@@ -4,9 +4,9 @@
 -- `TakesWord most text word later`. The text begins with a word, of which `most` octets are held, and goes
 -- on with `later` behind it. `IsWord`: it goes to a blank (`IsBlank`: octets 9 to 13 and 32), or where it
 -- begins with a quote to the same quote. `Writes`: each octet stands there as it is, or behind a backslash;
--- a backslash with nothing behind it stands for itself. `GoesOn`: what stands behind blanks
+-- a backslash with nothing behind it stands for itself. `GoesOn`: what follows blanks
 -- (`IsBehindBlanks`), or nothing where that is empty or begins with `#` (`SaysNothing`). `TakesOr`: where
--- no word follows, another one stands for it. `EndsBehindWord`: nothing stands behind the first word.
+-- no word follows, another one stands for it. `EndsBehindWord`: nothing follows the first word.
 --
 -- `TakesPart cut text part rest`. Behind octets that cut, the text has the part, with none of them in it,
 -- and then one of them and the rest, or its end. Tokens (`TakesToken`) are cut at gaps, which are spaces,

@@ -42,7 +42,7 @@ pub record IsBeforeBlanks (text front : List ℕ) : Type 0 where
   pub parts : text ≡ front ++ blanks
   pub plain : EndsWithBlank front → ⊥
 
--- The line is this directive of the agent's own section, and this stands behind it.
+-- The line is this directive of the agent's own section, and this follows it.
 pub record HasText (force : Section) (line : List ℕ) (directive : Directive) (text : List ℕ) : Type 0 where
   pub word : List ℕ
   pub rest : List ℕ
@@ -105,7 +105,7 @@ IsEntry force line (Simple simple) = (directive : Directive) × (text : List ℕ
     × SaysSimpleLine directive text simple
 IsEntry force line (Told note) = IsNote force line note
 
--- What stands behind a directive makes this.
+-- What follows a directive makes this.
 abbrev pub IsMade : Directive → List ℕ → Entry → Type 0
 IsMade directive text (Group row) = (directive ≡ directives.Group) × SaysGroup text row
 IsMade directive text (Access row) = (directive ≡ directives.Access) × SaysAccess text row

@@ -79,7 +79,7 @@ HasIndex model text level context matching = (behind : List ℕ) × HasLevel mod
 abbrev pub HasLongNames : List ℕ → List ℕ → Type 0
 HasLongNames group context = (32 < length group) ⊎ (32 < length context)
 
--- What stands behind the types sets this.
+-- What follows the types sets this.
 pub record SaysGroupViews (types : Types) (text : List ℕ) (setting : Setting) : Type 0 where
   pub view : List ℕ
   pub rest : List ℕ
@@ -88,12 +88,12 @@ pub record SaysGroupViews (types : Types) (text : List ℕ) (setting : Setting) 
   pub has_index : HasIndex setting.model rest setting.level setting.context setting.matching
   pub are_types : setting.types ≡ types
 
--- the group and the view of a line, of which this is so, with what stands behind them
+-- the group and the view of a line, of which this is so, with what follows them
 abbrev pub HasViewed : List ℕ → (List ℕ → ℕ → List ℕ → List ℕ → Type 0) → Type 0
 HasViewed text P = (group : List ℕ) × (model : ℕ) × (view : List ℕ) × (rest : List ℕ)
     × HasGroupAndView text group model view rest × P group model view rest
 
--- why what stands behind the types sets nothing, where it has a group and a view
+-- why what follows the types sets nothing, where it has a group and a view
 abbrev pub TellsNoIndex : List ℕ → ℕ → List ℕ → List ℕ → LineFault → Type 0
 TellsNoIndex group model view rest (Refused refusals.LongView) = 33 < length view
 TellsNoIndex group model view rest (Refused refusals.LongIndex) =

@@ -1,7 +1,7 @@
 -- What a line `group GROUP MODEL NAME` makes: a row of vacmSecurityToGroupTable (net-snmp 5.9.3).
 --
--- `SaysGroup text row`, `SaysAccess text row` (`Accesses`), `SaysFamily text line` (`Views`). What stands
--- behind a directive makes the row. Beside each stands why there is none (`TellsNoGroup`, `TellsNoAccess`,
+-- `SaysGroup text row`, `SaysAccess text row` (`Accesses`), `SaysFamily text line` (`Views`). What
+-- follows a directive makes the row. Beside each stands why there is none (`TellsNoGroup`, `TellsNoAccess`,
 -- `TellsNoFamily`): of several causes the first in snmpd's order. `SaysConditions`: what messages an access
 -- row is for. `IsViewName`: a view's name of 33 octets, for which snmpd has room and no view can have, is
 -- left empty. `held_mask`: a mask has no more octets than its subtree has arcs by eights.

@@ -4,7 +4,7 @@ use Rattle.std.specs.List.{flat_map}
 use Rattle.snmpd_lines.specs.declared.directives.Directive.{Directive}
 use Rattle.snmpd_rows.specs.declared.line.MadeLine.{MadeLine}
 
--- a directive, and what stands behind it
+-- a directive, and what follows it
 abbrev pub line_of : MadeLine → Directive × List ℕ
 line_of line = (line.directive, line.text.items)
 

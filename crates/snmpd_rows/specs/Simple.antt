@@ -4,7 +4,7 @@
 --
 -- `SaysSimple kind given text simple`. What a line `rouser` and its like says: types of views, which the
 -- directive gives (`simple_of`) or the first word names (`HasTypes`); a name, behind an option with a model
--- (`HasModel`) or without, and a level (`HasNamed`); for a community its versions in the place of the level
+-- (`HasModel`) or without, and a level (`HasNamed`); for a community its versions instead of the level
 -- (`HasCommunity`, `AreVersions`); and a view (`HasView`) and contexts (`HasContext`, `IsContextOf`: a star
 -- behind it makes a prefix). `TellsNoSimple`: why it says nothing.
 use Rattle.std.specs.Prelude.{◌≡◌, ◌≢◌, ◌⊎◌, ⊤, ℕ, true, false, List, [], ◌∷◌, ◌++◌, codes, Option, Some, None}
@@ -68,12 +68,12 @@ simple_of _ = None
 
 -- ---- types of views
 
--- the types, and what stands behind them: those that the directive gives, or those that its first word names
+-- the types, and what follows them: those that the directive gives, or those that its first word names
 abbrev pub HasTypes : Option Types → List ℕ → Types → List ℕ → Type 0
 HasTypes (Some given) text types later = (types ≡ given) × (later ≡ text)
 HasTypes None text types later = (word : List ℕ) × TakesWord 1023 text word (Some later) × IsTypes word types
 
--- nothing stands behind the types
+-- nothing follows the types
 abbrev pub LacksName : Option Types → List ℕ → Type 0
 LacksName (Some given) text = ⊥
 LacksName None text = EndsBehindWord 1023 text
@@ -150,7 +150,7 @@ HasView (Some text) (views.Named name) later =
 HasView (Some text) (views.Below oid) later = ((rest : List ℕ) → text ≡ codes "-V " ++ rest → ⊥)
     × TakesWord 2559 text oid.items later
 
--- no name stands behind the option
+-- no name follows the option
 abbrev pub LacksView : Option (List ℕ) → Type 0
 LacksView None = ⊥
 LacksView (Some text) = (rest : List ℕ) × (text ≡ codes "-V " ++ rest) × GoesOn rest None

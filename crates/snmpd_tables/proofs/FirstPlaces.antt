@@ -15,7 +15,7 @@ module _ {R : Type 0} (order : R → R → Ordering) (laws : IsTotalOrder order)
   finds_none places empty = λ row.
       subst (λ o. MatchOption o (IsNew order [] row) (IsFirstLike order [] row)) (sym (ap (λ es. lookup (tree.is_at (order row)) es) empty)) (λ k d below. omega (arith, below))
 
-  -- another row of its index in the place of one
+  -- another row of its index instead of one
   index_stays : (rows : List R) (row : R) (place : ℕ) → IsFirstLike order rows row place → (q : R) (k : ℕ) (d : R)
       → order (get_or (set rows place row) k d) q ≡ order (get_or rows k d) q
   index_stays rows row place first q k d =

@@ -1,4 +1,4 @@
--- What is told, one question after another.
+-- What is reported, one question after another.
 use Rattle.std.proofs.Common.{◌≡◌, ℕ, ◌+◌, ◌<◌, ◌≤◌, ◌⊎◌, List, [], ◌∷◌, ◌++◌, take, length, get_or, Contains, Result, Ok, Err, OnOk, inl, inr, refl, ap, sym, subst, ◌∙◌, arith}
 use Rattle.std.proofs.lemmas.List.{take_more, take_all}
 use Rattle.std.proofs.lemmas.List.Elements.{Contains-append_left, Contains-push, Contains-push_cases}
@@ -35,7 +35,7 @@ module _ (rows : Chosen) where
     ];
   }
 
-  -- nothing is told of no questions
+  -- nothing is reported of no questions
   pub tells_none : (P : Question → Type 0) (a : List Difference) → ((q : Question) → P q → Differs rows.held.now rows.kept.now q → ⊥) → Tells rows P a a
   tells_none P a none = record { keeps = λ d there. there; each = λ d there. inl there; all = λ q asked differs. absurd (none q asked differs) }
 
@@ -50,7 +50,7 @@ module _ (rows : Chosen) where
     all = λ q asked differs. told.all q (back q asked) differs;
   }
 
-  -- a difference is told
+  -- a difference is reported
   pub tells_one : (P : Question → Type 0) (a : List Difference) (d : Difference) → P d.question → IsDifference rows.held.now rows.kept.now d
       → ((q : Question) → P q → q ≡ d.question) → Tells rows P a (a ++ d ∷ [])
   tells_one P a d asked is one = record {

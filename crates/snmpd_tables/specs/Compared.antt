@@ -53,7 +53,7 @@ pub record IsAsked (s : Sides) (question : Question) : Type 0 where
   pub pair : HasPair s.groups question.group question.model
   pub tried : IsTried s question.group question.contexts
 
--- What is told is exactly for which of these messages the two choices come to other views.
+-- What is reported is exactly for which of these messages the two choices come to other views.
 pub record TellsDifferences (s : Sides) (found : List Difference) : Type 0 where
   pub each : (difference : Difference) → Contains found difference
       → IsAsked s difference.question × IsDifference s.held s.kept difference
@@ -69,7 +69,7 @@ IsCovered s group context =
 
 -- ---- between the calls
 
--- of the messages of which P holds those are told, beside what was told before, for which the choices differ
+-- of the messages of which P holds those are reported, beside what was reported before, for which the choices differ
 pub record Tells (rows : Chosen) (P : Question → Type 0) (before after : List Difference) : Type 0 where
   pub keeps : (difference : Difference) → Contains before difference → Contains after difference
   pub each : (difference : Difference) → Contains after difference
@@ -105,7 +105,7 @@ abbrev pub IsOfPairs : Compared → List HeldGroup → Question → Type 0
 IsOfPairs c groups question = HasPair groups question.group question.model
     × IsTried (sides_of c) question.group question.contexts
 
--- Where those of P were told, those of Q are told then.
+-- Where those of P were reported, those of Q are reported then.
 abbrev pub GoesOn : Chosen → (Question → Type 0) → (Question → Type 0) → List Difference → List Difference → Type 0
 GoesOn rows P Q old new = (before : List Difference) → Tells rows P before old → Tells rows Q before new
 

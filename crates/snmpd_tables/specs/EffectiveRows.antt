@@ -3,7 +3,7 @@
 -- `AreFirsts order rows kept`. Of the rows those whose index none before has (`Keeps`). `AreGroupsKept`: of
 -- group rows where one for any model stands for one of each of the models 1 to 3 (`stands_for`).
 -- `AreFamiliesKept`: of views without those of snmpd's own that no access row names (`AreWanted`).
--- `AreAccessKept`: of access rows of one index the one that snmpd's choice comes to (`Settles`).
+-- `AreAccessKept`: of access rows of one index the one that results from snmpd's choice (`Settles`).
 -- `HasOneEach`: of each index there is one row.
 use Rattle.std.specs.Prelude.{◌≡◌, ◌≢◌, ◌⊎◌, ℕ, ◌<◌, ◌==◌, if◌then◌else◌, List, [], ◌∷◌, ◌++◌, length, get_or, set}
 use Rattle.std.specs.Prelude.{Contains}
@@ -58,7 +58,7 @@ abbrev pub stands_for : HeldGroup → List HeldGroup
 stands_for held = if held.row.model == 0 then with_model held 1 ∷ with_model held 2 ∷ with_model held 3
     ∷ [] else held ∷ []
 
--- ---- access rows: of those of one index the one counts that snmpd's choice comes to
+-- ---- access rows: of those of one index the one counts that results from snmpd's choice
 
 abbrev pub Settles : List HeldAccess → HeldAccess → List HeldAccess → Type 0
 Settles kept held after =

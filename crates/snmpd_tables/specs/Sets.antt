@@ -2,7 +2,7 @@
 --
 -- `SetsAccess place setting rows told after changes`. The row that snmpd would choose for such messages has
 -- the views and the match (`set_row`), and its index stays; where that isn't the line's own
--- (`HasOwnIndex`), it is told (`TellsChange`). Where snmpd would choose none, a new row with these views
+-- (`HasOwnIndex`), it is reported (`TellsChange`). Where snmpd would choose none, a new row with these views
 -- alone goes in.
 use Rattle.std.specs.Prelude.{◌≡◌, ◌⊎◌, ℕ, Bool, if◌then◌else◌, List, [], ◌∷◌, ◌++◌, get_or, set, Some, None}
 use Rattle.vacm_core.specs.declared.rows.AccessRow.{AccessRow}
@@ -50,7 +50,7 @@ pub record HasOwnIndex (setting : Setting) (row : AccessRow) : Type 0 where
   pub model : row.model ≡ setting.model
   pub level : row.level ≡ setting.level
 
--- A change of a row of another index is told.
+-- A change of a row of another index is reported.
 abbrev pub TellsChange : Place → Setting → HeldAccess → List Change → List Change → Type 0
 TellsChange place setting held told after =
     (HasOwnIndex setting held.row × (after ≡ told))
@@ -65,7 +65,7 @@ ChoosesFor setting rows at = ChoosesAt (FitsQuestion (question_of setting)) rows
 abbrev pub ChoosesNone : Setting → List HeldAccess → Type 0
 ChoosesNone setting rows = ChoosesAt (FitsQuestion (question_of setting)) rows None
 
--- The row that snmpd would choose is changed, whatever its index, and that is told where it isn't the line's
+-- The row that snmpd would choose is changed, whatever its index, and that is reported where it isn't the line's
 -- own; or where it would choose none, a new row goes in.
 abbrev pub SetsAccess : Place → Setting → List HeldAccess → List Change → List HeldAccess → List Change → Type 0
 SetsAccess place setting rows told after changes =

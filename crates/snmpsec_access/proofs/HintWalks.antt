@@ -1,4 +1,4 @@
--- Walks over rows with their positions, and what is told of each.
+-- Walks over rows with their positions, and what is reported of each.
 use Rattle.std.proofs.Common.{◌≡◌, ℕ, ◌+◌, ◌<◌, ◌≤◌, List, [], ◌∷◌, ◌++◌, length, get_or, take, take_all, sym, ap, ◌∙◌, subst, append_assoc, append-nil, zero-add, arith}
 use Rattle.std.specs.List.{flat_map, enumerate_from}
 use Rattle.std.proofs.lemmas.Grind.{flat_map-append}

@@ -1,4 +1,4 @@
--- From the rows of a view, from the least up, to what is told of the view.
+-- From the rows of a view, from the least up, to what is reported of the view.
 use Rattle.std.proofs.Common.{◌≡◌, ◌≢◌, ℕ, ◌<◌, List, [], ◌∷◌, length, map, sym, subst, refl, inl, inr, arith}
 use Rattle.std.specs.Prelude.{Contains}
 use Rattle.std.specs.Borrow.{Bor}

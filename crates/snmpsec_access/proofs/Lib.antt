@@ -19,3 +19,4 @@ pub mod Added
 pub mod HintWalks
 pub mod Numbering
 pub mod HintsTold
+pub mod NameTexts

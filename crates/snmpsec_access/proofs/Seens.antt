@@ -1,4 +1,4 @@
--- What is told of questions, one after another.
+-- What is reported of questions, one after another.
 use Rattle.std.proofs.Common.{◌≡◌, ℕ, zero, suc, ◌+◌, ◌<◌, get_or, take, Bool, true, false, ◌||◌, List, [], ◌∷◌, ◌++◌, length, map, sym, ap, ◌∙◌, subst, refl, inl, inr, arith, append_assoc, append-nil}
 use Rattle.std.specs.Prelude.{Contains}
 use Rattle.std.specs.List.{flat_map, list_any}
@@ -84,7 +84,7 @@ module _ (t : Tables) where
     some = some ∙ ap (λ s. before.included || s) (sym (or_false (includes decision)));
   }
 
-  -- all that is told of a name
+  -- all that is reported of a name
   pub told_all : (model : ℕ) (name : List ℕ) (before after : Seen) → before.text.items ≡ [] → before.included ≡ false → SeesOn t (viewers t.contexts model name) before after
       → TellsSeen t model name after.text.items after.included
   told_all model name before after empty none on = record {

@@ -1,4 +1,4 @@
--- From the view of a question to what is told of every variable.
+-- From the view of a question to what is reported of every variable.
 use Rattle.std.proofs.Common.{◌≡◌, ◌≢◌, ℕ, List, sym, subst, refl}
 use Rattle.vacm_core.specs.Tables.{Tables, HaveSameRows}
 use Rattle.vacm_core.specs.declared.access.ViewType.{ViewType}

@@ -1,7 +1,7 @@
 -- The questions of a variable that can be answered accessAllowed (RFC 3415, section 3), and their lines.
 --
 -- `askers tables views`. The product of views, group rows, levels and context rows, in this order.
--- `asker_line`: the line of one. `name_word`, `context_word` (`Words`): a name as a word, or else as a TOML
+-- `asker_line`: the line of one. `name_text`, `context_text` (`NameText`): a name as a word, or else as a TOML
 -- basic string.
 use Rattle.std.specs.Prelude.{ℕ, List, [], ◌∷◌, ◌++◌, map, codes, decimal}
 use Rattle.std.specs.List.{flat_map}
@@ -13,7 +13,8 @@ use Rattle.vacm_core.specs.declared.rows.GroupRow.{GroupRow}
 use Rattle.vacm_core.specs.Allowed.{Requester}
 use Rattle.vacm_core.specs.Tables.{Tables}
 use Rattle.snmpsec_config.specs.Words.{level_word}
-use Rattle.snmpsec_access.specs.Words.{view_word, name_word, context_word}
+use Rattle.snmpsec_access.specs.Words.{view_word}
+use Rattle.snmpsec_access.specs.NameText.{name_text, context_text}
 
 -- who asks, and for which view
 pub record Asker : Type 0 where
@@ -46,5 +47,5 @@ askers t views = flat_map (of_view t) views
 abbrev pub asker_line : Asker → List ℕ
 asker_line a =
     decimal a.message.model
-    ++ (codes " " ++ (name_word a.message.name ++ (codes " " ++ (level_word a.message.level ++ (codes " "
-    ++ (view_word a.view ++ (codes " " ++ (context_word a.message.context ++ codes "\n"))))))))
+    ++ (codes " " ++ (name_text a.message.name ++ (codes " " ++ (level_word a.message.level ++ (codes " "
+    ++ (view_word a.view ++ (codes " " ++ (context_text a.message.context ++ codes "\n"))))))))

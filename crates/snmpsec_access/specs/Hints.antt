@@ -1,4 +1,4 @@
--- What is no fault in a row and hardly meant, as sets over the rows.
+-- What is no fault in a row and probably a mistake, as sets over the rows.
 --
 -- `hints_of users tables`. Of each row of the tables, in their order and by the positions, what is odd of
 -- it (`user_hints`, `group_hints`, `access_hints`, `family_hints`), each with its position and the name
@@ -73,7 +73,7 @@ pub record Told : Type 0 where
   pub position : ℕ
   pub name : List ℕ
 
--- what is told, where it holds
+-- what is reported, where it holds
 abbrev pub if_so : Bool → Oddity → ℕ → List ℕ → List Told
 if_so true what position name = record { what = what; position = position; name = name } ∷ []
 if_so false what position name = []
@@ -100,7 +100,7 @@ access_hints t p =
 abbrev pub family_hints : Tables → ℕ × FamilyRow → List Told
 family_hints t p = if_so (is_view_without_access t p.1) ViewWithoutAccess p.0 p.1.view
 
--- what each row of a table comes to, with its position from 0
+-- what each row of a table becomes, with its position from 0
 abbrev pub of_each : {R : Type 0} → (ℕ × R → List Told) → List R → List Told
 of_each of_row rows = flat_map of_row (enumerate_from 0 rows)
 

@@ -1,4 +1,5 @@
 pub mod Words
+pub mod NameText
 pub mod Askers
 pub mod UserPlaces
 pub mod Extent

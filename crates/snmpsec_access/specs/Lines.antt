@@ -6,7 +6,7 @@
 use Rattle.std.specs.Prelude.{ℕ, List, [], ◌++◌, codes, decimal, Option, Some, None}
 use Rattle.std.specs.List.{flat_map}
 use Rattle.vacm_core.specs.declared.access.ViewType.TheVariants.{Read, Write, Notify}
-use Rattle.snmpsec_access.specs.Words.{quoted}
+use Rattle.snmpsec_access.specs.NameText.{quoted}
 use Rattle.usm_users.specs.declared.load.UserRow.{UserRow}
 use Rattle.vacm_core.specs.Tables.{Tables}
 use Rattle.snmpsec_config.specs.Keys.{table_name}

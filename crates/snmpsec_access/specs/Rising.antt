@@ -50,7 +50,7 @@ pub record AreLeft (seen kept : List FamilyRow) : Type 0 where
 abbrev pub AreKept : List FamilyRow → List FamilyRow → Type 0
 AreKept rows kept = (AreExact rows × AreLeft rows kept) ⊎ ((¬ AreExact rows) × (kept ≡ rows))
 
--- ---- what is told
+-- ---- what is reported
 
 abbrev pub decision_of : Told → Decision
 decision_of (Refusal answer) = refusal answer
@@ -67,7 +67,7 @@ IsOfView families view (by_lines lines) =
 abbrev pub asker_of : Asking → Asker
 asker_of asking = record { message = requester_of asking; view = asking.view }
 
--- The text goes on with what is told of these questions.
+-- The text goes on with what is reported of these questions.
 pub record SeesOn (t : Tables) (from : List Asker) (before after : Seen) : Type 0 where
   pub decisions : List Decided
   pub askers : map (λ d. d.asker) decisions ≡ from

@@ -32,7 +32,8 @@ use Rattle.vacm_core.specs.Allowed.{Requester, Allowed, ByView, mask_bit, family
 use Rattle.vacm_core.specs.Tables.{Tables}
 use Rattle.vacm_core.specs.View.{AreExact}
 use Rattle.snmpsec_config.specs.Words.{level_word}
-use Rattle.snmpsec_access.specs.Words.{view_word, context_word, access_word}
+use Rattle.snmpsec_access.specs.Words.{view_word, access_word}
+use Rattle.snmpsec_access.specs.NameText.{context_text}
 use Rattle.snmpsec_access.specs.Askers.{Asker, levels}
 
 -- ---- lines
@@ -87,7 +88,7 @@ pub record AreLinesOf (families : List FamilyRow) (view : List ℕ) (lines : Lis
   pub kept : (AreExact (rows_of families view) × AreNeeded lines)
       ⊎ ((¬ AreExact (rows_of families view)) × IsPermutation (rows_of families view) rows)
 
--- ---- what is told of a question
+-- ---- what is reported of a question
 
 -- Each variable is decided by the lines as isAccessAllowed decides it (RFC 3415, section 3).
 pub record Decide (t : Tables) (q : Requester) (view : ViewType) (lines : List Line) : Type 0 where
@@ -159,7 +160,7 @@ sign false = codes "- "
 -- `LEVEL VIEW CONTEXT `
 abbrev pub head : Asker → List ℕ
 head a = level_word a.message.level
-    ++ (codes " " ++ (view_word a.view ++ (codes " " ++ (context_word a.message.context ++ codes " "))))
+    ++ (codes " " ++ (view_word a.view ++ (codes " " ++ (context_text a.message.context ++ codes " "))))
 
 abbrev pub seen_line : Asker → Line → List ℕ
 seen_line a line = head a ++ (sign line.include ++ (pattern_text line.pattern ++ codes "\n"))
@@ -178,7 +179,7 @@ abbrev pub includes : Decision → Bool
 includes (refusal answer) = false
 includes (by_lines lines) = list_any (λ line. line.include) lines
 
--- a question, and what is told of it
+-- a question, and what is reported of it
 pub record Decided : Type 0 where
   pub asker : Asker
   pub decision : Decision
@@ -192,7 +193,7 @@ decided_text d = decision_text d.asker d.decision
 abbrev pub any_includes : List Decided → Bool
 any_includes decisions = list_any (λ d. includes d.decision) decisions
 
--- Each question of the name is told of, in their order, and whether a line includes anything.
+-- Each question of the name is reported, in their order, and whether a line includes anything.
 pub record TellsSeen (t : Tables) (model : ℕ) (name text : List ℕ) (included : Bool) : Type 0 where
   pub decisions : List Decided
   pub askers : map (λ d. d.asker) decisions ≡ viewers t.contexts model name

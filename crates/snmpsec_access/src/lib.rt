@@ -3,13 +3,13 @@
 //! without authentication.
 //!
 //! ```
-//! use snmpsec_access::{access_word, put_quoted, view_word};
+//! use snmpsec_access::{access_word, put_name, view_word};
 //! use vacm_core::{Access, ViewType};
 //!
 //! assert_eq!(rt; view_word(ViewType::Read), "read");
 //! assert_eq!(rt; access_word(Access::NotInView), "notInView");
 //! let mut word = Vec::new(rt.alloc());
-//! put_quoted(&mut word, b"tom tom")?;
+//! put_name(&mut word, b"tom tom")?;
 //! assert_eq!(rt; word.as_slice(), b"\"tom tom\"".as_slice());
 //! ```
 //!
@@ -38,6 +38,7 @@ mod known;
 mod laws;
 mod lines;
 mod names;
+mod names_printed;
 mod row_hints;
 mod subtrees;
 mod told;
@@ -49,9 +50,10 @@ mod words;
 pub use explainer::Explainer;
 pub use extent::Extent;
 pub use hint::{Hint, Oddity};
-pub use laws::no_other_sees;
+pub use laws::{name_is_read_back, no_other_sees};
 pub use lines::hint_text;
+pub use names_printed::{name_text, put_name, put_quoted, quoted_text};
 pub use row_hints::hints;
 pub use viewer::{Seen, sees};
 pub use who::{WhoSeesQuery, who_sees};
-pub use words::{access_word, put_quoted, view_word};
+pub use words::{access_word, view_word};

@@ -10,8 +10,8 @@ ghost use Rattle.snmpsec_access.specs.Lines.{front, hint_line, lines_of, table_o
 
 use crate::headings::RowLines;
 use crate::hint::Hint;
+use crate::names_printed::put_quoted;
 use crate::row_hints::hints;
-use crate::words::put_quoted;
 use snmpsec_config::ConfigRows;
 use std::alloc::{AllocError, Global};
 

@@ -9,8 +9,9 @@ ghost use Rattle.snmpsec_access.specs.Seen.{by_lines, line_of, pattern_text, hea
 ghost use Rattle.snmpsec_access.specs.Seen.{decision_text, includes, viewer, of_level, TellsSeen};
 ghost use Rattle.snmpsec_access.specs.Rising.{rows_at, asker_of, decision_of, SeesOn};
 
+use crate::names_printed::put_context;
 use crate::told::{Told, told_of};
-use crate::words::{access_word, put_context, view_word};
+use crate::words::{access_word, view_word};
 use snmp_ber::Level;
 use snmpsec_config::level_word;
 use std::alloc::{AllocError, Global};

@@ -11,8 +11,9 @@ ghost use Rattle.snmpsec_access.specs.UserPlaces.{AreFirstPlaces};
 ghost use Rattle.snmpsec_access.specs.WhoSees.{IsWanted, IsReady, SeesIt, GoesOn, TellsWho};
 
 use crate::extent::{Extent, sees_below};
+use crate::names_printed::{put_context, put_name};
 use crate::users::{first_places, has_user_at};
-use crate::words::{put_context, put_name, view_word};
+use crate::words::view_word;
 use snmp_ber::{Level, Oid};
 use snmp_message::USER_BASED;
 use snmpsec_config::level_word;

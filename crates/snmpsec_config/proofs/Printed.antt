@@ -1,4 +1,4 @@
--- What is printed by a value that is told beside it.
+-- What is printed by a value that is reported beside it.
 use Rattle.std.proofs.Common.{Result, Ok, Err}
 use Rattle.std.specs.Prelude.{IfOk}
 

@@ -28,7 +28,7 @@ use Rattle.snmpsec_config.specs.Documents.{IsTopMember, IsFirstBad, IsFirstBadOf
 use Rattle.snmpsec_config.specs.Refusals.{Says, SaysSound, RefusesText, TellsUser, TellsAccess, TellsRow}
 use Rattle.snmpsec_config.proofs.Unique.{one_document, one_users, one_rows}
 
--- ---- what is wrong with a user's row is told by what it says
+-- ---- what is wrong with a user's row is reported by what it says
 
 some_mapped : {A B : Type 0} (f : A → B) (o : Option A) → is_some o ≡ is_some (option_map f o)
 some_mapped f None = refl

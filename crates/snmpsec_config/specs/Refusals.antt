@@ -3,7 +3,7 @@
 -- `Says text users rows`, `SaysSound`, `Loads text users tables`. The text is TOML whose document stands
 -- for these rows; none of them is at fault; and these users and tables are what they load to.
 --
--- `Refuses text fault`, `RefusesText`. The cause of the fault holds of the text, and it isn't want of
+-- `Refuses text fault`, `RefusesText`. The cause of the fault holds of the text, and it isn't out of
 -- memory. `TellsKey`: the first key of a row at fault. `refusal_line`: the line that is printed.
 use Rattle.std.specs.Prelude.{◌≡◌, ◌≢◌, ⊤, ℕ, List, ◌++◌, codes, decimal, map, if◌then◌else◌, Some, None, IsUtf8}
 use Rattle.toml.specs.Data.{Members, table, get_item}
@@ -146,7 +146,7 @@ vacm_refusal vacm_faults.OutOfMemory = faults.OutOfMemory
 
 -- ---- between the calls
 
--- What is told of a row's keys where it stands for no row.
+-- What is reported of a row's keys where it stands for no row.
 abbrev pub TellsNoRow : {R : Type 0} → ConfigTable → (Members → R → Type 0) → Members → RowFault → Type 0
 TellsNoRow {R} of Stands row (row_faults.Key fault) = TellsKey of row fault × ((made : R) → ¬ Stands row made)
 TellsNoRow {R} of Stands row row_faults.OutOfMemory = ⊤
@@ -157,7 +157,7 @@ TellsUnlisted of row (row_faults.Key (Missing key)) = ⊥
 TellsUnlisted of row (row_faults.Key (Value key)) = ⊥
 TellsUnlisted of row row_faults.OutOfMemory = ⊤
 
--- What is told of the tables of one array.
+-- What is reported of the tables of one array.
 abbrev pub TellsBadRow : {R : Type 0} → ConfigTable → (Members → R → Type 0) → Members → ConfigFault → Type 0
 TellsBadRow of Stands document (faults.BadKey name position fault) =
     (name ≡ of) × IsFirstBad Stands (values_of document of) position × TellsKeyAt document of position fault

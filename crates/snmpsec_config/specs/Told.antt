@@ -1,6 +1,6 @@
 -- What is wrong with a configuration and what is wanted, in words.
 --
--- `IsWhy fault words`. What is told beside that line: what is wrong and what is wanted.
+-- `IsWhy fault words`. What is reported beside that line: what is wrong and what is wanted.
 use Rattle.std.specs.Prelude.{◌≡◌, ⊤, ℕ, List, ◌++◌, codes, decimal, string_bytes, Option, Some, None, IfSome, Contains}
 use Rattle.snmpsec_config.specs.Shown.{shown_key}
 use Rattle.snmpsec_config.specs.declared.table.ConfigTable.{ConfigTable}
@@ -62,7 +62,7 @@ abbrev pub near_words : Option ConfigKey → List ℕ
 near_words None = codes ""
 near_words (Some key) = codes ", the nearest is " ++ key_name key
 
--- what is told of a key
+-- what is reported of a key
 abbrev pub IsKeyWords : ConfigTable → KeyFault → List ℕ → Type 0
 IsKeyWords of (Unlisted key) text =
     (near : Option ConfigKey) × IfSome near (Contains (listed of))
@@ -75,7 +75,7 @@ abbrev pub top_words : List ℕ → List ℕ
 top_words key = shown_key key
     ++ codes ": at the top stand the arrays of tables user, context, group, access and family, and nothing else"
 
--- What is wrong and what is wanted. Of a text that isn't TOML it is told in the words of the TOML reader.
+-- What is wrong and what is wanted. Of a text that isn't TOML it is reported in the words of the TOML reader.
 abbrev pub IsWhy : ConfigFault → List ℕ → Type 0
 IsWhy (faults.Nested line column) text =
     text

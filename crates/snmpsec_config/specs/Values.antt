@@ -137,11 +137,11 @@ IsFirstWrong of row key = FirstKey (IsRightAt of row) (listed of) key
 
 -- ---- between the calls
 
--- what is told of the value at a key that isn't right
+-- what is reported of the value at a key that isn't right
 abbrev pub value_fault : Option Data → ConfigKey → ValueFault
 value_fault value key = record { key = key; is_missing = is_none value }
 
--- what is told of a user's protocol and password
+-- what is reported of a user's protocol and password
 pub record IsAuthFault (row : Members) (fault : ValueFault) : Type 0 where
   pub first : FirstKey (IsRightAt tables.User row) (keys.Auth ∷ keys.AuthPassword ∷ []) fault.key
   pub told : fault ≡ value_fault (at row fault.key) fault.key

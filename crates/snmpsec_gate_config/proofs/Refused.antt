@@ -1,4 +1,4 @@
--- What is told of a document that says nothing, and of rows that don't load.
+-- What is reported of a document that says nothing, and of rows that don't load.
 use Rattle.std.proofs.Common.{◌≡◌, ℕ, ◌<◌, Bool, true, false, List, take, Option, Some, None, option_map, slice_get, refl, ap, arith}
 use Rattle.std.specs.List.{list_any}
 use Rattle.std.specs.Option.{option_and_then}
@@ -145,7 +145,7 @@ before_family d u g a Family w lt = absurd (omega (arith, lt))
 
 -- ---- rows that don't load
 
--- a context is told as a duplicate or not at all
+-- a context is reported as a duplicate or not at all
 never_bad : (position : ℕ) (earlier : List ContextRow) (row : ContextRow) (b : Bool) → list_any (access_rows.is_same_context row) earlier ≡ b
     → option_map (access_rows.told vacm_tables.Contexts position) (access_rows.row_fault access_rows.is_bad_context access_rows.is_same_context earlier row) ≡ Some (vacm_faults.BadRow vacm_tables.Contexts position) → ⊥
 never_bad position earlier row true e h = let never : Some (vacm_faults.Duplicate vacm_tables.Contexts position) ≡ Some (vacm_faults.BadRow vacm_tables.Contexts position) = rw e at h in cc

@@ -1,4 +1,4 @@
--- What is told of the keys of [gate], of a device and of a receiver.
+-- What is reported of the keys of [gate], of a device and of a receiver.
 use Rattle.std.proofs.Common.{◌≡◌, ◌∙◌, ℕ, true, false, is_some, option_map, Bool, List, [], ◌∷◌, ◌++◌, Option, Some, None, ◌⊎◌, refl, inl, inr}
 use Rattle.std.specs.Prelude.{⊤}
 use Rattle.toml.specs.Data.{Data, Members, no_members, member}
@@ -105,7 +105,7 @@ device_right t h = (inl (_, h.context), (inl (_, h.address), (inl (_, h.communit
 pub receiver_right : (t : Members) {receiver : _} → IsReceiver t receiver → EachKey (IsRightAt t) (listed tables.Receiver)
 receiver_right t h = (inl (_, h.address), (inl (_, h.user), (inl (_, h.level), (right_kind _ _ h.kind, tt))))
 
--- ---- what is told
+-- ---- what is reported
 
 pub first_fault : (row : Members) (among : List GateKey) (f : GateValueFault) (key : GateKey) → f ≡ value_fault (at row key) key → FirstKey (IsRightAt row) among key → IsFirstFault row among f
 first_fault row among f key is first = rw is (record { first = first; told = refl })

@@ -62,7 +62,7 @@ same_support NoAuthNoPriv x y e is = tt
 same_support AuthNoPriv x y e is = some_same _ x.auth y.auth (ap (λ (u : UserValues). u.auth) e) is
 same_support AuthPriv x y e is = (some_same _ x.auth y.auth (ap (λ (u : UserValues). u.auth) e) is.0, some_same _ x.privacy y.privacy (ap (λ (u : UserValues). u.privacy) e) is.1)
 
--- a receiver to which notifications can be sent is told as none
+-- a receiver to which notifications can be sent is reported as none
 not_told : (users these : List UserRow) (earlier : List ReceiverSettings) (receiver : ReceiverSettings) (fault : ReceiverFault) → map user_values users ≡ map user_values these → IsFit users earlier receiver → TellsReceiver these earlier receiver fault → ⊥
 not_told users these earlier receiver receiver_faults.UnknownUser e fit told =
     none_of _ these told (any_same (IsUserOf receiver) (same_user_of receiver) users these fit.0.0 fit.0.1 e fit.0.2 fit.0.3 fit.0.4.0)

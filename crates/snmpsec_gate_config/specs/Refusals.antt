@@ -145,7 +145,7 @@ Refuses text (faults.Config (config_faults.Toml fault)) = TellsNoDocument text (
 Refuses text (faults.Config config_faults.OutOfMemory) = ⊤
 Refuses text fault = (document : Members) × IsDocument text document × RefusesDocument document fault
 
--- This is a refusal of the text, and not for want of memory.
+-- This is a refusal of the text, and not because memory ran out.
 pub record RefusesText (text : List ℕ) (fault : GateFault) : Type 0 where
   pub cause : Refuses text fault
   pub no_memory : fault ≢ faults.Config config_faults.OutOfMemory
@@ -156,52 +156,52 @@ pub record RefusesText (text : List ℕ) (fault : GateFault) : Type 0 where
 abbrev pub key_fault : GateValueFault → GateKeyFault
 key_fault fault = if fault.is_missing then Missing fault.key else Value fault.key
 
--- What is told of a table that says nothing.
+-- What is reported of a table that says nothing.
 abbrev pub TellsNoTable : {R : Type 0} → GateTable → (Members → R → Type 0) → Members → GateTableFault → Type 0
 TellsNoTable {R} of Stands row (table_faults.Key fault) = TellsKey of row fault × ((made : R) → ¬ Stands row made)
 TellsNoTable {R} of Stands row table_faults.OutOfMemory = ⊤
 
--- What is told of a key that isn't listed.
+-- What is reported of a key that isn't listed.
 abbrev pub TellsUnlisted : GateTable → Members → GateTableFault → Type 0
 TellsUnlisted of row (table_faults.Key (Unlisted key)) = IsFirstUnlisted of row (string_bytes key)
 TellsUnlisted of row (table_faults.Key (Missing key)) = ⊥
 TellsUnlisted of row (table_faults.Key (Value key)) = ⊥
 TellsUnlisted of row table_faults.OutOfMemory = ⊤
 
--- What is told of a key at which there are no addresses.
+-- What is reported of a key at which there are no addresses.
 abbrev pub TellsNoAddresses : Members → GateKey → GateTableFault → Type 0
 TellsNoAddresses row key (table_faults.Key fault) = (fault ≡ key_fault (value_fault (at row key) key))
     × ((addresses : List SocketAddr) → ¬ AreAddresses (at row key) addresses)
 TellsNoAddresses row key table_faults.OutOfMemory = ⊤
 
--- What is told of a key that is there, and at which there are no addresses.
+-- What is reported of a key that is there, and at which there are no addresses.
 abbrev pub TellsNoAddressesIfAny : Members → GateKey → GateTableFault → Type 0
 TellsNoAddressesIfAny row key (table_faults.Key fault) = (fault ≡ key_fault (value_fault (at row key) key))
     × ((addresses : List SocketAddr) → ¬ AreAddressesIfAny (at row key) addresses)
 TellsNoAddressesIfAny row key table_faults.OutOfMemory = ⊤
 
--- What is told of [gate] where it says nothing.
+-- What is reported of [gate] where it says nothing.
 abbrev pub TellsNoGate : Members → GateFault → Type 0
 TellsNoGate document (faults.Gate fault) = TellsKey tables.Gate (gate_of document) fault
     × ((gate : GateSettings) → ¬ IsGate (gate_of document) gate)
 TellsNoGate document (faults.Config config_faults.OutOfMemory) = ⊤
 TellsNoGate document _ = ⊥
 
--- What is told of the devices where one says nothing.
+-- What is reported of the devices where one says nothing.
 abbrev pub TellsNoDevices : Members → GateFault → Type 0
 TellsNoDevices document (faults.Device position fault) = IsFirstBad IsDevice (devices_of document) position
     × TellsDeviceAt document position fault
 TellsNoDevices document (faults.Config config_faults.OutOfMemory) = ⊤
 TellsNoDevices document _ = ⊥
 
--- What is told of the receivers where one says nothing.
+-- What is reported of the receivers where one says nothing.
 abbrev pub TellsNoReceivers : Members → GateFault → Type 0
 TellsNoReceivers document (faults.Receiver position fault) = IsFirstBad IsReceiver (receivers_of document) position
     × TellsReceiverAt document position fault
 TellsNoReceivers document (faults.Config config_faults.OutOfMemory) = ⊤
 TellsNoReceivers document _ = ⊥
 
--- What is told of the rows of users and access where one stands for none.
+-- What is reported of the rows of users and access where one stands for none.
 abbrev pub TellsNoRows : Members → ConfigFault → Type 0
 TellsNoRows document (config_faults.BadKey of position fault) = IsFirstBadRow document of position
     × TellsKeyAt document of position fault

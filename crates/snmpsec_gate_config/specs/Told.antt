@@ -1,6 +1,6 @@
 -- What is wrong with a gateway's configuration and what is expected, in words.
 --
--- `IsWhy fault words`. What is told beside the line of a refusal.
+-- `IsWhy fault words`. What is reported beside the line of a refusal.
 use Rattle.std.specs.Prelude.{◌≡◌, ℕ, List, ◌++◌, codes, decimal, string_bytes, Option, Some, None, IfSome, Contains}
 use Rattle.snmpsec_config.specs.Shown.{shown_key}
 use Rattle.snmpsec_config.specs.Told as config
@@ -43,7 +43,7 @@ abbrev pub near_words : Option GateKey → List ℕ
 near_words None = codes ""
 near_words (Some key) = codes ", the nearest is " ++ key_name key
 
--- what is told of a key
+-- what is reported of a key
 abbrev pub IsKeyWords : GateTable → GateKeyFault → List ℕ → Type 0
 IsKeyWords of (Unlisted key) text =
     (near : Option GateKey) × IfSome near (Contains (listed of))
@@ -51,16 +51,16 @@ IsKeyWords of (Unlisted key) text =
 IsKeyWords of (Missing key) text = text ≡ key_name key ++ (codes ": missing, " ++ wanted_words key)
 IsKeyWords of (Value key) text = text ≡ key_name key ++ (codes ": " ++ wanted_words key)
 
--- what is told of a key that has no place at the top
+-- what is reported of a key that has no place at the top
 abbrev pub top_words : List ℕ → List ℕ
 top_words key = shown_key key ++ codes
     ": at the top are the table gate and the arrays of tables device, receiver, user, group, access and family"
 
--- what is told of the device at this position
+-- what is reported of the device at this position
 abbrev pub device_words : ℕ → List ℕ → List ℕ
 device_words position words = codes "device " ++ (decimal position ++ (codes ": " ++ words))
 
--- what is told of the receiver at this position
+-- what is reported of the receiver at this position
 abbrev pub receiver_words : ℕ → List ℕ → List ℕ
 receiver_words position words = codes "receiver " ++ (decimal position ++ (codes ": " ++ words))
 

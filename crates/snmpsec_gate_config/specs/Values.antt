@@ -135,11 +135,11 @@ IsFirstWrong of row key = FirstKey (IsRightAt row) (listed of) key
 
 -- ---- between the calls
 
--- what is told of the value at a key that isn't right
+-- what is reported of the value at a key that isn't right
 abbrev pub value_fault : Option Data → GateKey → GateValueFault
 value_fault value key = record { key = key; is_missing = is_none value }
 
--- what is told of the first of some keys that isn't right
+-- what is reported of the first of some keys that isn't right
 pub record IsFirstFault (row : Members) (among : List GateKey) (fault : GateValueFault) : Type 0 where
   pub first : FirstKey (IsRightAt row) among fault.key
   pub told : fault ≡ value_fault (at row fault.key) fault.key

@@ -5,14 +5,37 @@ use snmpd_import::{
     Imported, Sources, TextFault, follow, import, is_none_known, is_serious, notes_text,
 };
 use snmpd_tables::read_items;
-use snmpsec_cli::ImportWords;
+use snmpsec_cli::{Command, ImportWords, Invocation, import_words};
+use snmpsec_commands::run::Program;
 use snmpsec_commands::{Complaint, octets_of};
 use snmpsec_output::Output;
 use std::alloc::{AllocError, Global};
 use std::collections::BTreeSet;
-use std::io::Input;
+use std::io::{Input, Write};
 use std::rt::Files;
 use vacm_core::{ContextRow, Name};
+
+/// The program that has `import-snmpd`.
+#[derive(Clone, Copy, Debug)]
+pub(crate) struct Import;
+
+impl Program for Import {
+    fn command<R: Files + Input + AllocGlobal, O: Write, E: Write>(
+        &self,
+        rt: &R,
+        asked: &Invocation<'_, '_>,
+        _out: &mut O,
+        _err: &mut E,
+    ) -> Result<Output, Complaint> {
+        match asked.command {
+            Command::ImportSnmpd => import_snmpd(rt, &import_words(asked.words)),
+            _ => Err(Complaint::line(
+                rt.alloc(),
+                "this program has import-snmpd alone; run snmpsec",
+            )),
+        }
+    }
+}
 
 /// The contexts of these names, each once, behind the one without a name; `None` where one has more than 32 octets.
 fn contexts_of(alloc: Global, names: &[&str]) -> Result<Option<Vec<ContextRow>>, AllocError> {
@@ -69,7 +92,7 @@ fn put_source(
 /// Looks at the names of contexts before it opens a file, reads the files in their order and those that they
 /// name, and then prints the configuration. The first file that isn't read ends it. Where no line of them is
 /// known, there is none.
-pub(crate) fn import_snmpd<R: Files + Input + AllocGlobal>(
+fn import_snmpd<R: Files + Input + AllocGlobal>(
     rt: &R,
     words: &ImportWords<'_>,
 ) -> Result<Output, Complaint> {

@@ -2,12 +2,13 @@
 //! `snmpsec` starts.
 #![tactic(auto)]
 
+use import::Import;
+use snmpsec_commands::run::run;
 use std::process::ExitCode;
 
 mod import;
-mod run;
 mod saved_users;
 
 fn main(rt: HostRuntime) -> ExitCode {
-    ExitCode::from(run::run(&rt, &mut rt.stdout(), &mut rt.stderr()))
+    ExitCode::from(run(&Import, &rt, &mut rt.stdout(), &mut rt.stderr()))
 }

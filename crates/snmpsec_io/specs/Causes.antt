@@ -10,7 +10,7 @@ use Rattle.std.specs.declared.io.ErrorKind.TheVariants as kinds
 use Rattle.snmpsec_io.specs.declared.fault.ReadFault.{ReadFault}
 use Rattle.snmpsec_io.specs.declared.fault.ReadFault.TheVariants as causes
 
--- the system has no word of its own for it, as far as who named a file is told
+-- the system has no word of its own for it, as far as it is reported to who named a file
 pub record IsAnother (kind : ErrorKind) : Type 0 where
   pub found : kind ≢ kinds.NotFound
   pub permitted : kind ≢ kinds.PermissionDenied

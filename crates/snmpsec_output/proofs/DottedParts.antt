@@ -1,4 +1,4 @@
--- The parts of a word, and what is told of them.
+-- The parts of a word, and what is reported of them.
 use Rattle.std.proofs.Common.{◌≡◌, ℕ, ◌<◌, ◌≤◌, ◌+◌, ◌^◌, suc, List, [], ◌∷◌, ◌++◌, length, take, decimal, Some, refl, ap, ◌∙◌, subst, arith}
 use Rattle.std.specs.Prelude.{◌==◌, map, min}
 use Rattle.std.proofs.Math.Nat.{min-eq_left}
@@ -24,7 +24,7 @@ counted word count place next short within is e =
     let room : count + 1 ≤ 18446744073709551615 = omega (arith, short, within, is, length-slice_split (λ octet. octet == 46) word, count_by-le-length (λ octet. octet == 46) word) in
     e ∙ min-eq_left room ∙ omega (arith, is)
 
--- what is told of a part is told of its word
+-- what is reported of a part is reported of its word
 pub told_of_part : (word : List ℕ) (fault : VariableFault) (place : ℕ) (part : List ℕ) → slice_get (parts word) place ≡ Some part
     → AllByRecursion IsNumber (take place (parts word)) → TellsNumber (suc place) part fault → TellsVariable word fault
 told_of_part word faults.Empty place part there before told = absurd told

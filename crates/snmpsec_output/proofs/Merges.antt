@@ -32,7 +32,7 @@ texts_taken zero files = refl
 texts_taken (suc i) [] = refl
 texts_taken (suc i) (file ∷ files) = ap (λ texts. file.1 ∷ texts) (texts_taken i files)
 
--- the file that isn't saved clocks is told
+-- the file that isn't saved clocks is reported
 told : (moment : ℕ) (files : List NamedText) (i : ℕ) (file : NamedText) (held : Marks) (fault : ClockFault) (printed : Printed) → StandsAt files i file
     → HoldsMergeOf moment (take i (texts_of files)) held → IsFaultOf moment file.1 fault → TellsFault file.0 fault printed → MergeAnswers moment files printed
 told moment files i file held (clock_faults.Line line) printed at holds fault tells = inr (record {

@@ -11,7 +11,7 @@ use Rattle.snmpsec_output.specs.Refusals.{refused_line}
 use Rattle.snmpsec_output.specs.Open.{OpensBy}
 use Rattle.snmpsec_output.specs.Opening.{Opens, OpensWith}
 
--- the refusal that is told is the table's answer
+-- the refusal that is reported is the table's answer
 cause : (names : Bool) (users : List User) (w : List ℕ) (r : Refusal) → r ≢ OutOfMemory → IfSome (refusal_answer r) (OpensWith names users w) → Opens users w (Err r)
 cause names users w r other opens = subst (λ (o : Option Refusal). IfSome (refused o) (OpensWith names users w)) (is_in_table r other) opens
 

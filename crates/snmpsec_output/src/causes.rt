@@ -2,7 +2,7 @@
 
 use crate::messages::cut_message;
 use snmp_msg::{Refusal, read_message, read_security};
-use snmpsec_access::put_quoted;
+use snmpsec_access::quoted_text;
 use snmpsec_causes::cause;
 use std::alloc::{AllocError, Global};
 
@@ -30,12 +30,7 @@ pub(crate) fn cause_of(
 
 /// The user name of a message between quotes, or `""` where it can't be read.
 fn user_of(alloc: Global, datagram: &[u8]) -> Result<String, AllocError> {
-    let mut quoted = Vec::new(alloc);
-    put_quoted(&mut quoted, user_in(datagram))?;
-    match String::from_utf8(quoted) {
-        Ok(text) => Ok(text),
-        Err(_) => String::from_str(alloc, "\"\""),
-    }
+    quoted_text(alloc, user_in(datagram))
 }
 
 /// The octets of the user name in a message, or none where it can't be read.

@@ -43,7 +43,7 @@ pub fn check_text(alloc: Global, config: &[u8], words: &[&str; 6]) -> Result<Out
         } in
         ChecksAccess config.now (map (λ word. word.now) words.now) printed) }
 
-    // A configuration is called no TOML only where it is none.
+    // A configuration is called no TOML only if it isn't TOML.
     ensures toml { IfOk result
         (λ output. output.out.items ≡ codes "refused config toml\n" → IsUtf8 config.now
         → parse_document config.now ≡ None) }

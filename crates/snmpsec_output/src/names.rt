@@ -6,7 +6,7 @@ ghost use Rattle.snmpsec_output.specs.Names.{IsNoteIf};
 use crate::counters::counter_name;
 use snmp_ber::split_once;
 use snmp_msg::{Binding, Pdu, PduType};
-use snmpsec_access::put_quoted;
+use snmpsec_access::quoted_text;
 use std::alloc::{AllocError, Global};
 
 /// What follows a line that has this name: ` # NAME` if names are asked for, and else nothing. An empty name,
@@ -30,21 +30,15 @@ pub(crate) fn octets_note(alloc: Global, names: bool, octets: &[u8]) -> Result<S
     if !names || octets.is_empty() {
         return note(alloc, names, "");
     }
-    let text = quoted_text(alloc, octets)?;
+    let text = text_if_utf8(alloc, octets)?;
     note(alloc, names, &text)
 }
 
 /// The octets as a TOML basic string, or an empty text if they aren't UTF-8.
-fn quoted_text(alloc: Global, octets: &[u8]) -> Result<String, AllocError> {
-    let none = String::new(alloc);
-    if std::str::from_utf8(octets).is_err() {
-        return Ok(none);
-    }
-    let mut quoted = Vec::new(alloc);
-    put_quoted(&mut quoted, octets)?;
-    match String::from_utf8(quoted) {
-        Ok(text) => Ok(text),
-        Err(_fault) => Ok(none),
+fn text_if_utf8(alloc: Global, octets: &[u8]) -> Result<String, AllocError> {
+    match std::str::from_utf8(octets) {
+        Ok(_) => quoted_text(alloc, octets),
+        Err(_) => Ok(String::new(alloc)),
     }
 }
 

@@ -1,7 +1,7 @@
 //! Which name of a configuration is meant by one that it hasn't.
 
 use crate::choices::nearest;
-use snmpsec_access::put_quoted;
+use snmpsec_access::quoted_text;
 use snmpsec_config::{AccessConfig, ConfigFault};
 use std::alloc::{AllocError, Global};
 use vacm_core::GroupRow;
@@ -36,24 +36,14 @@ fn why_of(
             }
         }
     }
-    let asked = quote_of(alloc, name)?;
+    let asked = quoted_text(alloc, name.as_bytes())?;
     match nearest(&known, name) {
         Some(near) => {
-            let near = quote_of(alloc, near)?;
+            let near = quoted_text(alloc, near.as_bytes())?;
             format!(in alloc;
                 "no group row of model {model} has the name {asked}, the nearest is {near}"
             )
         }
         None => format!(in alloc; "no group row of model {model} has the name {asked}"),
-    }
-}
-
-/// A name between quotes.
-fn quote_of(alloc: Global, name: &str) -> Result<String, AllocError> {
-    let mut text = Vec::new(alloc);
-    put_quoted(&mut text, name.as_bytes())?;
-    match String::from_utf8(text) {
-        Ok(text) => Ok(text),
-        Err(_) => String::from_str(alloc, name),
     }
 }

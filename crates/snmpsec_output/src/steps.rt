@@ -4,6 +4,7 @@ ghost use Rattle.std.specs.Prelude.{◌≡◌, ◌++◌, OnOk};
 ghost use Rattle.snmpsec_output.specs.Steps as spec;
 ghost use Rattle.snmpsec_output.specs.Steps.{family_line, view_lines, access_lines, group_lines};
 
+use snmpsec_access::put_name;
 use std::alloc::{AllocError, Global};
 use vacm_core::{AccessStep, ContextStep, GroupStep, ViewStep};
 
@@ -26,7 +27,7 @@ fn put_view(alloc: Global, out: &mut Vec<u8>, view: &Option<ViewStep>) -> Result
         return Ok(());
     };
     out.extend_from_slice(b"view ")?;
-    out.extend_from_slice(step.name.as_slice())?;
+    put_name(out, step.name.as_slice())?;
     out.extend_from_slice(b"\n")?;
     put_family(alloc, out, step.family)
 }
@@ -58,13 +59,13 @@ fn put_group(alloc: Global, out: &mut Vec<u8>, group: &Option<GroupStep>) -> Res
     let position = step.position;
     let line = format!(in alloc; "group {position} ")?;
     out.extend_from_slice(line.as_bytes())?;
-    out.extend_from_slice(step.name.as_slice())?;
+    put_name(out, step.name.as_slice())?;
     out.extend_from_slice(b"\n")?;
     put_access(alloc, out, &step.access)
 }
 
 /// Appends what decides, as far as it comes: the lines `context POSITION`, `group POSITION NAME`, `access
-/// POSITION`, `view NAME` and `family POSITION`. A name is written as its octets stand. The error says that
+/// POSITION`, `view NAME` and `family POSITION`. A name is printed as all commands print it. The error says that
 /// memory ran out.
 pub(crate) fn put_steps(
     alloc: Global,

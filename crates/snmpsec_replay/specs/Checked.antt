@@ -1,7 +1,7 @@
 -- What a text is to a replay, where it is only looked at.
 --
--- `TellsLog`. A log that is only looked at is lines, and their number is told; or after some lines comes
--- what is none, and its number is told.
+-- `TellsLog`. A log that is only looked at is lines, and their number is reported; or after some lines comes
+-- what is none, and its number is reported.
 --
 -- `StopsLog`. Where a read fails, lines of a log stand before it, and a part of what is next, without a
 -- line feed.
@@ -27,7 +27,7 @@ pub record ReadsLog (unread left : Option (List ℕ)) (IsPart : List LogEntry �
   pub consumed : Consumes unread left (read ++ part)
   pub is_part : IsPart entries part
 
--- All of it is lines, and their number is told; or after some lines comes what is none, and its number is told.
+-- All of it is lines, and their number is reported; or after some lines comes what is none, and its number is reported.
 abbrev pub TellsLog : Option (List ℕ) → Option (List ℕ) → CheckedLog → Type 0
 TellsLog unread left (logs.Whole n) = ReadsLog unread left (λ es part. IsEnd left es part × (n ≡ length es))
 TellsLog unread left (logs.Faulty n why) = ReadsLog unread left (IsBad from_line_1 left n)

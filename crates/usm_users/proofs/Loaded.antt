@@ -44,7 +44,7 @@ fine_at rows sound i row there =
 pub fine_item : (rows : List UserRow) → AreSound rows → (i : ℕ) (row : UserRow) → i < length rows → row ≡ get_or rows i row → IsFine (take i rows) row
 fine_item rows sound i row within at = fine_at rows sound i row (slice_get_read rows (length rows) i row refl within at)
 
--- ---- what is told
+-- ---- what is reported
 
 no_memory_told : (earlier : List UserRow) (i : ℕ) (row : UserRow) → row_fault earlier i row ≡ Some OutOfMemory → ⊥
 unfolding row_fault

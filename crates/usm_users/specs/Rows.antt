@@ -59,7 +59,7 @@ pub record IsFirstFault (rows : List UserRow) (fault : UserFault) : Type 0 where
   pub there : fault_at rows position ≡ Some fault
   pub none_before : (i : ℕ) → i < position → fault_at rows i ≡ None
 
--- OutOfMemory is told only where no row is at fault.
+-- OutOfMemory is reported only where no row is at fault.
 abbrev pub IsTold : List UserRow → UserFault → Type 0
 IsTold rows (BadUser position) = IsFirstFault rows (BadUser position)
 IsTold rows (ShortPassword position) = IsFirstFault rows (ShortPassword position)
