@@ -2,8 +2,8 @@
 -- be sealed.
 --
 -- `reporting` (RFC 3414, section 3.2). The report of a counter of usmStats, in the default context of the
--- engine: at authNoPriv for counter 2, else at noAuthNoPriv. `refusing`: the report on an accepted message
--- that isn't handled, at its own level (RFC 3412 section 7.1).
+-- engine: at authNoPriv for counter 2, else at noAuthNoPriv; `counter_report` is what it says. `refusing`: the
+-- report on an accepted message that isn't handled, at its own level (RFC 3412 section 7.1).
 use Rattle.std.specs.Prelude.{◌==◌, ℕ, ℤ, pos, false, if◌then◌else◌, List, [], ◌∷◌, replicate}
 use Rattle.snmp_ber.specs.declared.level.Level.{Level}
 use Rattle.snmp_ber.specs.declared.level.Level.TheVariants.{NoAuthNoPriv, AuthNoPriv}
@@ -48,6 +48,21 @@ reporting engine own id user request_id k value = record {
   user = user;
   salt = replicate 8 0;
   scoped = counter_scoped engine request_id (counter_name k) value;
+}
+
+-- what that report says
+abbrev pub counter_report : List ℕ → BootsAndTime → ℕ → List ℕ → ℤ → ℕ → ℕ → Speech
+counter_report engine own id user request_id k value = record {
+  level = report_level k;
+  id = id;
+  reportable = false;
+  engine = engine;
+  pair = own;
+  user = user;
+  salt = replicate 8 0;
+  context_engine = engine;
+  context_name = [];
+  pdu = pdu_with (pdu_tag Report) request_id (pos 0) (pos 0) (counter_variable k value ∷ []);
 }
 
 -- ---- on an accepted message that nothing handles

@@ -89,7 +89,7 @@ pub use refusal::{Counted, write_refusal_report};
 pub use refused::Refused;
 pub use response::{Response, write_response, write_response_front, write_response_within};
 pub use response_laws::{
-    refusal_is_short, report_is_short, response_is_accepted, too_big_is_short,
+    refusal_is_short, report_is_accepted, report_is_short, response_is_accepted, too_big_is_short,
 };
 pub use status::{Status, status_of};
 pub use unhandled::Unhandled;

@@ -17,7 +17,7 @@ ghost use Rattle.snmp_outgoing.specs.Accepts.{IsTakenInTime};
 ghost use Rattle.snmp_outgoing.specs.Speaks.{spoken_contexts, SpeechFits, HasSameUser};
 ghost use Rattle.snmp_outgoing.specs.declared.counter.Counter.{Counter as Which};
 ghost use Rattle.snmp_agent.specs.Responses.{response, responding};
-ghost use Rattle.snmp_agent.specs.CounterReports.{reporting, refusing};
+ghost use Rattle.snmp_agent.specs.CounterReports.{count_report, counter_report, refusing, report_level, reporting};
 
 use snmp_ber::one_element;
 use snmp_outgoing::spoken_is_accepted;
@@ -37,6 +37,35 @@ pub fn response_is_accepted()
         (responding engine own g c p status index vs salt)
         (spoken_contexts (response engine own g c p status index vs salt))
         (pdu_with (pdu_tag Response) p.id status index vs) }
+{
+    spoken_is_accepted();
+}
+
+/// An agent's report is accepted by a manager with that user, with the same ScopedPDU given on, exactly where its
+/// pair is in the window of what the manager holds once it has learned the pair; at noAuthNoPriv always. So is the
+/// report on a message that is refused, whose counter is of usmStats (`refused`; RFC 3414, section 3.2), and that on
+/// an accepted message that nothing handles (`unhandled`; RFC 3412, section 7.1).
+pub fn report_is_accepted()
+    ensures refused { (senders takers : List User) (held : Marks) (now : ℕ)
+        (engine : List ℕ) (own : BootsAndTime) (id : ℕ) (user : List ℕ) (request_id : ℤ)
+        (n value : ℕ) (text : List ℕ)
+        → SpeechFits (counter_report engine own id user request_id n value)
+        → HasSameUser manager senders takers user (report_level n)
+        → Seals senders (reporting engine own id user request_id n value) (Ok text)
+        → IsTakenInTime (as_manager held) takers now text
+        (reporting engine own id user request_id n value)
+        (spoken_contexts (counter_report engine own id user request_id n value))
+        (counter_report engine own id user request_id n value).pdu }
+    ensures unhandled { (senders takers : List User) (held : Marks) (now : ℕ)
+        (engine : List ℕ) (own : BootsAndTime) (g : Given) (p : PduParts) (counter : Which)
+        (value : ℕ) (salt text : List ℕ)
+        → SpeechFits (count_report engine own g p counter value salt)
+        → HasSameUser manager senders takers g.user g.level
+        → Seals senders (refusing engine own g p counter value salt) (Ok text)
+        → IsTakenInTime (as_manager held) takers now text
+        (refusing engine own g p counter value salt)
+        (spoken_contexts (count_report engine own g p counter value salt))
+        (count_report engine own g p counter value salt).pdu }
 {
     spoken_is_accepted();
 }

@@ -67,7 +67,7 @@ community_text-is v community pdu one most =
 pub read_as_written : (v : Version) (community pdu : List ℕ) (m : Parts) → IsOneElement pdu → length (community_text v community pdu) ≤ 65507 → IsMessage (community_text v community pdu) m → m ≡ written v community pdu
 read_as_written v community pdu m one most is = one_message (community_text v community pdu) m (written v community pdu) is (community_text-is v community pdu one most)
 
--- a message by what stands in front of its PDU, whose content has so many octets
+-- a message by what comes before its PDU, whose content has so many octets
 pub community_text-front : (v : Version) (community pdu : List ℕ) (size : ℕ) → size ≡ length (front_text v community) + length pdu → community_text v community pdu ≡ (head_of 48 size ++ front_text v community) ++ pdu
 unfolding community_text content_text
 community_text-front v community pdu size size_is =

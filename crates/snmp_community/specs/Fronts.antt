@@ -1,4 +1,4 @@
--- A message by what stands in front of the bindings of its PDU.
+-- A message by what comes before the bindings of its PDU.
 --
 -- `pdu_before front list`: the PDU with the tag and the numbers of the front, whose list has this content.
 -- `pdu_after front vs`: the same, with these bindings in their canonical spelling. `text_after front vs`: the

@@ -38,7 +38,7 @@ engine_of old new stays is = stays.engine ∙ (is ∙ sym (ap (λ (a : AgentStat
 length_of : (ws : List WaitingNotification) → length (waitings_of ws) ≡ length ws
 length_of ws = length-map ws waiting_of
 
--- ---- a notification comes to wait
+-- ---- a notification waits from now on
 
 few_of : (most len : ℕ) → (most ≤ len → ⊥) → len < most
 few_of most len never = elim (cases_lt len most) [

@@ -21,7 +21,7 @@ use Rattle.snmp_requests.specs.declared.device_request.Heard.TheVariants.{Respon
 use Rattle.snmp_requests.specs.declared.device_request.NextStep.{NextStep}
 use Rattle.snmp_requests.specs.declared.outstanding.OutstandingRequest.{OutstandingRequest}
 use Rattle.snmp_forward.specs.InformHistory.{Accepted, InformHappening, InformSetting, IsAccepted, IsInformLawful, answers, asked_with}
-use Rattle.snmp_forward.specs.InformStanding.{AnswerHappens, AnswersGiven, HeardHappens, HearsOf, InformsStand, IsAnswered, IsAt, IsForNone, IsUnasked, KeepsRequests, ReceiverHappens, accepted_at, holds}
+use Rattle.snmp_forward.specs.InformStanding.{AnswerHappens, AnswersGiven, HeardHappens, HearsOf, InformsStand, IsAnswered, IsAt, IsForNone, IsReport, IsUnasked, KeepsRequests, ReceiverHappens, accepted_at, holds}
 use Rattle.snmp_manager.specs.declared.pending.Pending.{Pending}
 use Rattle.snmp_forward.specs.WaitingInforms.{IsAsked}
 use Rattle.snmp_forward.specs.declared.informs.Informs.{Informs}
@@ -65,22 +65,29 @@ answered_of f before place w g told new c p stands at has is front pdu =
 abbrev pub with_requests : Informs → Outstanding → Informs
 with_requests f q = record { alloc = f.alloc; engine = f.engine; manager = f.manager; requests = q; list = f.list; next = f.next; most = f.most; limits = f.limits }
 
-given_as : (old new : Informs) (q : Outstanding) (before : List InformHappening) (from receiver : ℕ) (g : Given) (b c : Bool) (n : ℕ) (Next : NextStep → Type 0) → from ≡ receiver → b ≡ c → AnswersGiven (with_requests old q) before from g b n Next new
-    → AnswersGiven old before receiver g c n Next new
-given_as old new q before from receiver g b c n Next one same a = record {
+given_as : (old new : Informs) (q : Outstanding) (before : List InformHappening) (from receiver : ℕ) (g : Given) (b c : Bool) (told : Heard) (n : ℕ) (Next : NextStep → Type 0) → from ≡ receiver → b ≡ c → (IsReport told → q ≡ old.requests)
+    → AnswersGiven (with_requests old q) before from g b told n Next new → AnswersGiven old before receiver g c told n Next new
+given_as old new q before from receiver g b c told n Next one same left a = record {
   heard = a.heard;
+  heard_is = a.heard_is;
+  kept = λ wait report. a.kept wait report ∙ left (subst IsReport a.heard_is report);
   clock = a.clock ∙ same;
   next = a.next;
   happens = λ what came whats accepted. let h = a.happens what (came ∙ sym one) whats accepted in record { lawful = h.lawful; stands = h.stands };
 }
 
-pub answer_as : (old new : Informs) (q : Outstanding) (before : List InformHappening) (from receiver : ℕ) (g : Given) (b : Bool) (r : ReceiverTaken) → from ≡ receiver → b ≡ holds old.manager g.engine → HeardHappens (with_requests old q) before from g b r new
+pub answer_as : (old new : Informs) (q : Outstanding) (before : List InformHappening) (from receiver : ℕ) (g : Given) (b : Bool) (told : Heard) (r : ReceiverTaken) → from ≡ receiver → b ≡ holds old.manager g.engine → (IsReport told → q ≡ old.requests) → HeardHappens (with_requests old q) before from g b told r new
     → AnswerHappens old before receiver g r new
-answer_as old new q before from receiver g b (taken.Refused why) one same h = h
-answer_as old new q before from receiver g b taken.NoAnswer one same h = absurd h
-answer_as old new q before from receiver g b (taken.Heard n) one same h = given_as old new q before from receiver g b (holds old.manager g.engine) n _ one same h
-answer_as old new q before from receiver g b (taken.Acknowledged n) one same h = given_as old new q before from receiver g b (holds old.manager g.engine) n _ one same h
-answer_as old new q before from receiver g b (taken.Denied n counter) one same h = given_as old new q before from receiver g b (holds old.manager g.engine) n _ one same h
+answer_as old new q before from receiver g b told (taken.Refused why) one same left h = h
+answer_as old new q before from receiver g b told taken.NoAnswer one same left h = absurd h
+answer_as old new q before from receiver g b told (taken.Heard n) one same left h = (told, given_as old new q before from receiver g b (holds old.manager g.engine) told n _ one same left h)
+answer_as old new q before from receiver g b told (taken.Acknowledged n) one same left h = (told, given_as old new q before from receiver g b (holds old.manager g.engine) told n _ one same left h)
+answer_as old new q before from receiver g b told (taken.Denied n counter) one same left h = (told, given_as old new q before from receiver g b (holds old.manager g.engine) told n _ one same left h)
+
+-- a Report ends no request
+pub left_report : (old : Outstanding) (heard : Heard) (token : ℕ) (new : Outstanding) → new ≡ left_after heard token old → IsReport heard → new ≡ old
+left_report old Response token new is report = absurd report
+left_report old (Report counter authentic) token new is report = is
 
 -- ---- no answer
 
@@ -119,12 +126,13 @@ module _ (old new : Informs) (held : Held) (before : List InformHappening) (now 
   is_accepted : IsAccepted held.users accepted_now
   is_accepted = subst (λ (users : List User). Outcome (as_manager new.manager.clocks) users (now / 1000) datagram (Ok g)) (sym takes.0) takes_on.2
 
-  hears_of : (n : ℕ) (Next : NextStep → Type 0) → AnswersGiven (with_manager old held) before receiver g (holds held g.engine) n Next new → HearsOf old before now receiver datagram n Next new
-  hears_of n Next a =
+  hears_of : (told : Heard) (n : ℕ) (Next : NextStep → Type 0) → AnswersGiven (with_manager old held) before receiver g (holds held g.engine) told n Next new → HearsOf old before now receiver datagram n Next new
+  hears_of told n Next a =
       let h = a.happens accepted_now refl refl is_accepted in record {
         given = g;
         takes = takes_on;
         heard = a.heard;
+        kept = a.kept;
         clock = a.clock ∙ ap (λ (h : Held). holds h g.engine) (sym same);
         next = a.next;
         happens = record {
@@ -136,9 +144,9 @@ module _ (old new : Informs) (held : Held) (before : List InformHappening) (now 
   pub receives : (r : ReceiverTaken) → AnswerHappens (with_manager old held) before receiver g r new → ReceiverHappens old before now receiver datagram r new
   receives (taken.Refused why) h = absurd h
   receives taken.NoAnswer h = (g, takes_on, record { none = h.none; still = record { list = h.still.list; stands = h.still.stands }; requests = h.requests })
-  receives (taken.Heard n) h = hears_of n _ h
-  receives (taken.Acknowledged n) h = hears_of n _ h
-  receives (taken.Denied n counter) h = hears_of n _ h
+  receives (taken.Heard n) h = hears_of h.0 n _ h.1
+  receives (taken.Acknowledged n) h = hears_of h.0 n _ h.1
+  receives (taken.Denied n counter) h = hears_of h.0 n _ h.1
 
 -- ---- refusals
 

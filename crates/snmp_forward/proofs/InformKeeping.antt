@@ -294,7 +294,7 @@ module _ (old new : Informs) (before : List InformHappening) (e : InformHappenin
     few = let long = length-remove old.list.items place within in omega (arith, stands.few, long, is_same.most, ap length list);
   }
 
--- one more comes to wait
+-- one more waits from now on
 pub comes : (old new : Informs) (before : List InformHappening) (i : Inform) (w : WaitingInform) → new.limits ≡ old.limits → new.most ≡ old.most → new.requests ≡ old.requests → new.next ≡ old.next + 1 → w.number ≡ old.next
     → new.list.items ≡ old.list.items ++ w ∷ [] → length old.list.items < old.most → InformStands old.limits old.requests (begins old.next i ∷ before) w → InformsStand before old → InformsStand (begins old.next i ∷ before) new
 comes old new before i w limits most requests next number list room is stands =

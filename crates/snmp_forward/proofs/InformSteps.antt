@@ -3,7 +3,7 @@ use Rattle.std.specs.Prelude.{◌≡◌, ◌≢◌, ◌<◌, ◌≤◌, ℕ, Boo
 use Rattle.std.specs.FinMap as map
 use Rattle.std.specs.Global.{Vec}
 use Rattle.std.specs.List.{HoldsAt}
-use Rattle.std.proofs.Common.{refl, sym, ap, subst, ◌∙◌, inl, inr, arith}
+use Rattle.std.proofs.Common.{refl, sym, ap, subst, ◌∙◌, inl, inr, arith, true≢false}
 use Rattle.std.proofs.lemmas.Option.{same_Some, slice_get_within}
 use Rattle.std.proofs.lemmas.List.{get_or-set_same, length-set}
 use Rattle.snmp_incoming.specs.Outcome.{Given}
@@ -321,9 +321,11 @@ module _ (old new : Informs) (before : List InformHappening) (place : ℕ) (w y 
     goes_on = hears.hears;
   }
 
-  pub answers_on : {Next : NextStep → Type 0} → Next next → new.list.items ≡ slice_set old.list.items place y → is_end next ≡ false → AnswersGiven old before w.inform.receiver given holds w.number Next new
-  answers_on is list on = record {
+  pub answers_on : {Next : NextStep → Type 0} → Next next → new.list.items ≡ slice_set old.list.items place y → is_end next ≡ false → (next ≡ Wait → new.requests ≡ old.requests) → AnswersGiven old before w.inform.receiver given holds heard w.number Next new
+  answers_on is list on waits = record {
     heard = heard_as heard holds next;
+    heard_is = refl;
+    kept = λ wait report. waits wait;
     clock = refl;
     next = is;
     happens = λ what from whats accepted. record {
@@ -333,9 +335,11 @@ module _ (old new : Informs) (before : List InformHappening) (place : ℕ) (w y 
     };
   }
 
-  pub answers_off : {Next : NextStep → Type 0} → Next next → new.list.items ≡ remove (slice_set old.list.items place y) place → is_end next ≡ true → AnswersGiven old before w.inform.receiver given holds w.number Next new
+  pub answers_off : {Next : NextStep → Type 0} → Next next → new.list.items ≡ remove (slice_set old.list.items place y) place → is_end next ≡ true → AnswersGiven old before w.inform.receiver given holds heard w.number Next new
   answers_off is list ended = record {
     heard = heard_as heard holds next;
+    heard_is = refl;
+    kept = λ wait report. absurd (true≢false (sym ended ∙ ap is_end wait));
     clock = refl;
     next = is;
     happens = λ what from whats accepted. record {
@@ -354,10 +358,10 @@ module _ (old new : Informs) (before : List InformHappening) (place : ℕ) (i x 
   number_is : w.number ≡ i.number
   number_is = ap (λ (z : WaitingInform). z.number) (same_Some w i (sym at ∙ at_i))
 
-  pub hears_on : (Next : NextStep → Type 0) → Next next → new.list.items ≡ slice_set old.list.items place y → is_end next ≡ false → AnswersGiven old before w.inform.receiver given holds i.number Next new
-  hears_on Next has list on = subst (λ (n : ℕ). AnswersGiven old before w.inform.receiver given holds n Next new) number_is
-      (answers_on old new before place w y given heard holds engine next hears_it of at is_answer keeps else stands has list on)
+  pub hears_on : (Next : NextStep → Type 0) → Next next → new.list.items ≡ slice_set old.list.items place y → is_end next ≡ false → (next ≡ Wait → new.requests ≡ old.requests) → AnswersGiven old before w.inform.receiver given holds heard i.number Next new
+  hears_on Next has list on waits = subst (λ (n : ℕ). AnswersGiven old before w.inform.receiver given holds heard n Next new) number_is
+      (answers_on old new before place w y given heard holds engine next hears_it of at is_answer keeps else stands has list on waits)
 
-  pub hears_off : (Next : NextStep → Type 0) → Next next → new.list.items ≡ remove (slice_set old.list.items place y) place → is_end next ≡ true → AnswersGiven old before w.inform.receiver given holds i.number Next new
-  hears_off Next has list ended = subst (λ (n : ℕ). AnswersGiven old before w.inform.receiver given holds n Next new) number_is
+  pub hears_off : (Next : NextStep → Type 0) → Next next → new.list.items ≡ remove (slice_set old.list.items place y) place → is_end next ≡ true → AnswersGiven old before w.inform.receiver given holds heard i.number Next new
+  hears_off Next has list ended = subst (λ (n : ℕ). AnswersGiven old before w.inform.receiver given holds heard n Next new) number_is
       (answers_off old new before place w y given heard holds engine next hears_it of at is_answer keeps else stands has list ended)

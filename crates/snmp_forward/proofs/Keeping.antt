@@ -1,6 +1,6 @@
 -- What is known of the notifications that wait, when one more comes, and when the first is dealt with.
 use Rattle.std.specs.Prelude.{◌≡◌, ◌≢◌, ◌<◌, ◌+◌, ℕ, zero, suc, cond, nat_eq, Bool, List, [], ◌∷◌, ◌++◌, drop, All, AllPairs, Contains, slice_index_or}
-use Rattle.std.proofs.Common.{refl, ap, subst, ◌∙◌, inl, inr, arith}
+use Rattle.std.proofs.Common.{refl, sym, ap, subst, ◌∙◌, inl, inr, arith}
 use Rattle.std.proofs.lemmas.Bool.Decides.{eqb_tells}
 use Rattle.std.proofs.lemmas.List.Elements.{All-cons, All-head, All-nil, All-push, All-tail, All-weaker, All-contains, Contains-append_left, Contains-append_right, Contains-push}
 use Rattle.std.proofs.lemmas.List.Quantifiers.{all_pairs_push}
@@ -9,7 +9,7 @@ use Rattle.snmp_gate.specs.declared.devices.Device.{Device}
 use Rattle.snmp_forward.specs.History.{Happening, as_inform, left_in, number_of, sent, taken, unsent}
 use Rattle.snmp_forward.specs.Queue.{Waiting, waiting, with_left}
 use Rattle.snmp_forward.specs.Sending.{MayBeSent}
-use Rattle.snmp_forward.specs.Standing.{QueueStands, WaitingStands}
+use Rattle.snmp_forward.specs.Standing.{IsKept, QueueStands, WaitingStands}
 use Rattle.snmp_forward.specs.declared.receivers.Receiver.{Receiver}
 
 -- ---- tests of numbers
@@ -30,6 +30,10 @@ same n a b = elim (eqb_tells n n) [
 
 later : {A : Type 0} (x y : A) (xs : List A) → Contains xs x → Contains (y ∷ xs) x
 later x y xs there = Contains-append_right (y ∷ []) xs x there
+
+in_tail : {A : Type 0} (x y : A) (xs : List A) → Contains (x ∷ xs) y → (y ≢ x) → Contains xs y
+in_tail x y xs (zero, within, is) never = absurd (never (sym is))
+in_tail x y xs (suc k, within, is) never = (k, omega (arith, within), is)
 
 pub latest : {A : Type 0} (x : A) (xs : List A) → Contains (x ∷ xs) x
 latest x xs = Contains-append_left (x ∷ []) xs x (Contains-push [] x)
@@ -85,6 +89,16 @@ module _ (tables : Tables) (devices : List Device) (receivers : List Receiver) w
   past_more : (before : List Happening) (next : ℕ) → All (λ (e : Happening). number_of e < next) before → All (λ (e : Happening). number_of e < next + 1) before
   past_more before next past = All-weaker (λ (e : Happening). number_of e < next) (λ (e : Happening). number_of e < next + 1) (λ e less. omega (arith, less)) before past
 
+  -- each that has receivers left waits, one more of this number among them
+  kept_more : (before : List Happening) (next device : ℕ) (datagram to : List ℕ) (ws : List Waiting) → ((n : ℕ) → left_in n before ≢ [] → IsKept ws n) → (n : ℕ) → left_in n (taken next device datagram to ∷ before) ≢ []
+      → IsKept (ws ++ waiting next device datagram to ∷ []) n
+  kept_more before next device datagram to ws kept n some = elim (eqb_tells n next) [
+    | inl (test, is) ↦ (waiting next device datagram to, Contains-push ws (waiting next device datagram to), sym is)
+    | inr (test, different) ↦
+        let w = kept n (λ none. some (ap (λ (t : Bool). cond t to (left_in n before)) test ∙ none)) in
+        (w.0, Contains-append_left ws (waiting next device datagram to ∷ []) w.0 w.1, w.2)
+  ]
+
   pub queue_takes : (before : List Happening) (next device : ℕ) (datagram to : List ℕ) (ws : List Waiting) → QueueStands tables devices receivers before next ws → All (MayBeSent tables devices receivers device datagram) to
       → QueueStands tables devices receivers (taken next device datagram to ∷ before) (next + 1) (ws ++ waiting next device datagram to ∷ [])
   queue_takes before next device datagram to ws stands may =
@@ -96,6 +110,7 @@ module _ (tables : Tables) (devices : List Device) (receivers : List Receiver) w
           left = same next to (left_in next before);
           may = may;
         });
+        kept = kept_more before next device datagram to ws stands.kept;
         rise = all_pairs_push (λ (a b : Waiting). a.number < b.number) ws (waiting next device datagram to) stands.rise (λ k d within. known_number before next (slice_index_or ws k d) stands.past (stands.all k d within));
         past = All-cons (λ (x : Happening). number_of x < next + 1) e before (omega arith) (past_more before next stands.past);
       }
@@ -112,10 +127,30 @@ module _ (tables : Tables) (devices : List Device) (receivers : List Receiver) w
       let less = known_number before next w stands.past (All-head (WaitingStands tables devices receivers before) w ws stands.all) in
       All-cons (λ (x : Happening). number_of x < next) e before (omega (arith, less, is)) stands.past
 
+  -- each other that has receivers left is one of the others
+  kept_other : (e : Happening) (before : List Happening) (w : Waiting) (ws : List Waiting) → number_of e ≡ w.number → ((n : ℕ) → left_in n before ≢ [] → IsKept (w ∷ ws) n) → (n : ℕ) → n ≢ w.number → left_in n (e ∷ before) ≢ [] → IsKept ws n
+  kept_other e before w ws is kept n never some =
+      let v = kept n (λ none. some (left_other n e before (λ same. never (same ∙ is)) ∙ none)) in
+      (v.0, in_tail w v.0 ws v.1 (λ same. never (sym v.2 ∙ ap (λ (z : Waiting). z.number) same)), v.2)
+
+  kept_first : (e : Happening) (before : List Happening) (w : Waiting) (receiver : ℕ) (left : List ℕ) (ws : List Waiting) → number_of e ≡ w.number → w.left ≡ receiver ∷ left → left_in w.number (e ∷ before) ≡ drop 1 (left_in w.number before)
+      → left_in w.number before ≡ w.left → ((n : ℕ) → left_in n before ≢ [] → IsKept (w ∷ ws) n) → (n : ℕ) → left_in n (e ∷ before) ≢ [] → IsKept (with_left w left ws) n
+  kept_first e before w receiver [] ws is left_is turn stood kept n some = elim (eqb_tells n w.number) [
+    | inl (test, same) ↦ absurd (some (ap (λ (m : ℕ). left_in m (e ∷ before)) same ∙ turn ∙ ap (λ (ns : List ℕ). drop 1 ns) (stood ∙ left_is)))
+    | inr (test, different) ↦ kept_other e before w ws is kept n different some
+  ]
+  kept_first e before w receiver (k ∷ ks) ws is left_is turn stood kept n some = elim (eqb_tells n w.number) [
+    | inl (test, same) ↦ (waiting w.number w.device w.datagram (k ∷ ks), latest (waiting w.number w.device w.datagram (k ∷ ks)) ws, sym same)
+    | inr (test, different) ↦
+        let v = kept_other e before w ws is kept n different some in
+        (v.0, later v.0 (waiting w.number w.device w.datagram (k ∷ ks)) ws v.1, v.2)
+  ]
+
   pub queue_goes_on : (e : Happening) (before : List Happening) (next : ℕ) (w : Waiting) (receiver : ℕ) (left : List ℕ) (ws : List Waiting) → number_of e ≡ w.number → w.left ≡ receiver ∷ left → left_in w.number (e ∷ before) ≡ drop 1 (left_in w.number before)
       → QueueStands tables devices receivers before next (w ∷ ws) → QueueStands tables devices receivers (e ∷ before) next (with_left w left ws)
   queue_goes_on e before next w receiver [] ws is left_is turn stands = record {
     all = gone e before next w ws is stands;
+    kept = kept_first e before w receiver [] ws is left_is turn (All-head (WaitingStands tables devices receivers before) w ws stands.all).left stands.kept;
     rise = pairs_tail (λ (a b : Waiting). a.number < b.number) w ws stands.rise;
     past = past_on e before next w ws is stands;
   }
@@ -127,6 +162,7 @@ module _ (tables : Tables) (devices : List Device) (receivers : List Receiver) w
           left = turn ∙ ap (λ (ns : List ℕ). drop 1 ns) (first.left ∙ left_is);
           may = All-tail (MayBeSent tables devices receivers w.device w.datagram) receiver (n ∷ ns) (subst (λ (ns : List ℕ). All (MayBeSent tables devices receivers w.device w.datagram) ns) left_is first.may);
         }) (gone e before next w ws is stands);
+        kept = kept_first e before w receiver (n ∷ ns) ws is left_is turn first.left stands.kept;
         rise = pairs_cons (λ (a b : Waiting). a.number < b.number) (waiting w.number w.device w.datagram (n ∷ ns)) ws (pairs_head (λ (a b : Waiting). a.number < b.number) w ws stands.rise)
             (pairs_tail (λ (a b : Waiting). a.number < b.number) w ws stands.rise);
         past = past_on e before next w ws is stands;

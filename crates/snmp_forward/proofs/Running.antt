@@ -1,8 +1,9 @@
 -- Runs of a forwarder, and the receivers of a notification.
-use Rattle.std.specs.Prelude.{◌≡◌, ◌<◌, ◌≤◌, ℕ, List, [], ◌∷◌, ◌++◌, cond, drop, nat_eq, length, All, AllPairs, Bool}
+use Rattle.std.specs.Prelude.{◌≡◌, ◌≢◌, ◌<◌, ◌≤◌, ℕ, List, [], ◌∷◌, ◌++◌, cond, drop, nat_eq, length, All, AllPairs, Bool}
 use Rattle.std.proofs.Common.{refl, sym, ap, subst, ◌∙◌, inl, inr, append_assoc, arith}
+use Rattle.std.proofs.lemmas.List.{append-nil}
 use Rattle.std.proofs.lemmas.Bool.Decides.{eqb_tells}
-use Rattle.std.proofs.lemmas.List.Elements.{All-head, All-tail}
+use Rattle.std.proofs.lemmas.List.Elements.{All-contains, All-head, All-tail}
 use Rattle.snmp_agent.specs.Agent.{AgentState}
 use Rattle.snmp_gate.specs.declared.devices.Device.{Device}
 use Rattle.snmp_gate.specs.declared.devices.Devices.{Devices}
@@ -15,7 +16,7 @@ use Rattle.snmp_forward.specs.declared.forwarder.Forwarded.TheVariants as out
 use Rattle.snmp_forward.specs.declared.forwarder.Forwarder.{Forwarder}
 use Rattle.snmp_forward.specs.declared.forwarder.TrapTaken.{TrapTaken}
 use Rattle.snmp_forward.specs.declared.forwarder.TrapTaken.TheVariants as trap
-use Rattle.snmp_forward.specs.Queue.{waitings_of}
+use Rattle.snmp_forward.specs.Queue.{Waiting, waitings_of}
 use Rattle.snmp_forward.specs.declared.inform.Inform.{Inform}
 use Rattle.snmp_forward.specs.declared.queue.WaitingNotification.{WaitingNotification}
 use Rattle.snmp_forward.specs.declared.receivers.Receiver.{Receiver}
@@ -201,3 +202,19 @@ module _ (agent : AgentState) (devices : List Device) (receivers : List Receiver
 
   pub once : (n : ℕ) (history : List Happening) → AreLawful agent devices receivers history → AllPairs (λ (a b : ℕ). a < b) (dealt_with n history)
   once n history lawful = pairs_front (λ (a b : ℕ). a < b) (dealt_with n history) (left_in n history) (subst (AllPairs (λ (a b : ℕ). a < b)) (sym (turns n history lawful)) (rises n history lawful))
+
+-- ---- what waits no more was dealt with for each
+
+none_or : (xs : List ℕ) → (xs ≢ [] → ⊥) → xs ≡ []
+none_or [] never = refl
+none_or (x ∷ xs) never = absurd (never (λ is. cc is))
+
+pub dealt_with_each : (first : Forwarder) (events : List Event) (last : Forwarder) (known : RunStands first events last) (n : ℕ) → All (λ (w : Waiting). w.number ≢ n) (waitings_of last.waiting.list.items)
+    → dealt_with n known.history ≡ chosen_for n known.history
+dealt_with_each first events last known n none =
+    let gone : left_in n known.history ≡ [] = none_or (left_in n known.history) (λ some.
+    let w = known.stands.queue.kept n some in
+    All-contains (λ (w : Waiting). w.number ≢ n) (waitings_of last.waiting.list.items) w.0 none w.1 w.2) in
+    sym (append-nil (dealt_with n known.history))
+    ∙ ap (λ (ns : List ℕ). dealt_with n known.history ++ ns) (sym gone)
+    ∙ turns first.agent first.devices.list.items first.receivers.list.items n known.history known.is.lawful

@@ -1,4 +1,4 @@
--- What comes to Informs and goes out for them, call by call.
+-- What a forwarder gets for Informs and sends for them, call by call.
 --
 -- `InformEvent`: a call and its answer. `IsInformRun`: the events of Informs, the latest first. `IsInformHistoryOf`: a
 -- history of these events that is lawful. `times_ended`: how often an Inform ended. `IsOwnResponse`: an accepted

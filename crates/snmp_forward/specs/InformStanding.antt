@@ -16,6 +16,7 @@ use Rattle.snmp_manager.specs.declared.pending.Pending.{Pending}
 use Rattle.snmp_requests.specs.DeviceRequestRuns.{HearStep}
 use Rattle.snmp_requests.specs.Outstanding.{HasNoToken, Outstanding, message_id_of}
 use Rattle.snmp_requests.specs.declared.device_request.Heard.{Heard}
+use Rattle.snmp_requests.specs.declared.device_request.Heard.TheVariants.{Response, Report}
 use Rattle.snmp_requests.specs.declared.device_request.NextStep.{NextStep}
 use Rattle.snmp_requests.specs.declared.device_request.NextStep.TheVariants as step
 use Rattle.snmp_requests.specs.declared.device_request.SentMessage.{SentMessage}
@@ -94,6 +95,12 @@ pub record IsStill (old : Informs) (before : List InformHappening) (new : Inform
   pub list : new.list.items ≡ old.list.items
   pub stands : InformsStand before new
 
+-- nothing changed of what waits, nor of the requests
+pub record IsUntouched (old : Informs) (before : List InformHappening) (new : Informs) : Type 0 where
+  pub list : new.list.items ≡ old.list.items
+  pub requests : new.requests ≡ old.requests
+  pub stands : InformsStand before new
+
 -- ---- between the functions
 
 -- the requests that wait are among those of before, but for such as were given a later token
@@ -158,10 +165,21 @@ pub record WaitsForAnswer (old : Informs) (place now token : ℕ) (pending : Pen
   pub later : (t : ℕ) → t < old.requests.next → t < token
   pub there : before.token ≢ Some token → HasRequest new.requests token pending
 
+-- it is a Report
+abbrev pub IsReport : Heard → Type 0
+IsReport Response = ⊥
+IsReport (Report counter authentic) = Unit {0}
+
+-- A Report after which nothing else is to be done ends no request: the Response to it can still come.
+abbrev pub KeepsRequestsOf : HearStep → Outstanding → Outstanding → Type 0
+KeepsRequestsOf heard old new = heard.turn ≡ step.Wait → IsReport heard.heard → new ≡ old
+
 -- what is heard of it is lawful, whatever datagram of its receiver it is that was accepted
 pub record AnswersGiven (old : Informs) (before : List InformHappening) (receiver : ℕ) (given : Given)
-    (holds_clock : Bool) (number : ℕ) (Next : NextStep → Type 0) (new : Informs) : Type 0 where
+    (holds_clock : Bool) (told : Heard) (number : ℕ) (Next : NextStep → Type 0) (new : Informs) : Type 0 where
   pub heard : HearStep
+  pub heard_is : heard.heard ≡ told
+  pub kept : KeepsRequestsOf heard old.requests new.requests
   pub clock : heard.holds_clock ≡ holds_clock
   pub next : Next heard.turn
   pub happens : (what : Accepted) → what.receiver ≡ receiver → what.given ≡ given
@@ -195,15 +213,16 @@ pub record LeavesAll (old : Informs) (before : List InformHappening) (receiver :
   pub requests : IsUnasked old receiver given.id → new.requests ≡ old.requests
 
 -- what becomes of an answer
-abbrev pub HeardHappens : Informs → List InformHappening → ℕ → Given → Bool → ReceiverTaken → Informs → Type 0
-HeardHappens old before receiver given holds_clock (taken.Refused why) new = ⊥
-HeardHappens old before receiver given holds_clock taken.NoAnswer new = ⊥
-HeardHappens old before receiver given holds_clock (taken.Heard n) new =
-    AnswersGiven old before receiver given holds_clock n IsGoingOn new
-HeardHappens old before receiver given holds_clock (taken.Acknowledged n) new =
-    AnswersGiven old before receiver given holds_clock n (λ next. next ≡ step.Answered) new
-HeardHappens old before receiver given holds_clock (taken.Denied n counter) new =
-    AnswersGiven old before receiver given holds_clock n (λ next. next ≡ step.Refused counter) new
+abbrev pub HeardHappens : Informs → List InformHappening → ℕ → Given → Bool → Heard → ReceiverTaken → Informs
+    → Type 0
+HeardHappens old before receiver given holds_clock told (taken.Refused why) new = ⊥
+HeardHappens old before receiver given holds_clock told taken.NoAnswer new = ⊥
+HeardHappens old before receiver given holds_clock told (taken.Heard n) new =
+    AnswersGiven old before receiver given holds_clock told n IsGoingOn new
+HeardHappens old before receiver given holds_clock told (taken.Acknowledged n) new =
+    AnswersGiven old before receiver given holds_clock told n (λ next. next ≡ step.Answered) new
+HeardHappens old before receiver given holds_clock told (taken.Denied n counter) new =
+    AnswersGiven old before receiver given holds_clock told n (λ next. next ≡ step.Refused counter) new
 
 -- whether boots and time of this engine are held
 abbrev pub holds : Held → List ℕ → Bool
@@ -213,12 +232,12 @@ holds held engine = is_some (pair_at held.clocks engine)
 abbrev pub AnswerHappens : Informs → List InformHappening → ℕ → Given → ReceiverTaken → Informs → Type 0
 AnswerHappens old before receiver given taken.NoAnswer new = LeavesAll old before receiver given new
 AnswerHappens old before receiver given (taken.Refused why) new = ⊥
-AnswerHappens old before receiver given (taken.Heard n) new =
-    HeardHappens old before receiver given (holds old.manager given.engine) (taken.Heard n) new
-AnswerHappens old before receiver given (taken.Acknowledged n) new =
-    HeardHappens old before receiver given (holds old.manager given.engine) (taken.Acknowledged n) new
-AnswerHappens old before receiver given (taken.Denied n counter) new =
-    HeardHappens old before receiver given (holds old.manager given.engine) (taken.Denied n counter) new
+AnswerHappens old before receiver given (taken.Heard n) new = (told : Heard)
+    × HeardHappens old before receiver given (holds old.manager given.engine) told (taken.Heard n) new
+AnswerHappens old before receiver given (taken.Acknowledged n) new = (told : Heard)
+    × HeardHappens old before receiver given (holds old.manager given.engine) told (taken.Acknowledged n) new
+AnswerHappens old before receiver given (taken.Denied n counter) new = (told : Heard)
+    × HeardHappens old before receiver given (holds old.manager given.engine) told (taken.Denied n counter) new
 
 -- a datagram of a receiver that was accepted at this moment, in milliseconds
 abbrev pub accepted_at : Held → ℕ → ℕ → List ℕ → Given → Accepted
@@ -231,6 +250,7 @@ pub record HearsOf (old : Informs) (before : List InformHappening) (now receiver
   pub given : Given
   pub takes : Takes old.manager (now / 1000) datagram (Some (Ok given)) new.manager
   pub heard : HearStep
+  pub kept : KeepsRequestsOf heard old.requests new.requests
   pub clock : heard.holds_clock ≡ holds new.manager given.engine
   pub next : Next heard.turn
   pub happens : InformHappens old before
@@ -239,7 +259,7 @@ pub record HearsOf (old : Informs) (before : List InformHappening) (now receiver
 -- what becomes of a datagram
 abbrev pub ReceiverHappens : Informs → List InformHappening → ℕ → ℕ → List ℕ → ReceiverTaken → Informs → Type 0
 ReceiverHappens old before now receiver datagram (taken.Refused why) new =
-    Takes old.manager (now / 1000) datagram (Some (Err why)) new.manager × IsStill old before new
+    Takes old.manager (now / 1000) datagram (Some (Err why)) new.manager × IsUntouched old before new
 ReceiverHappens old before now receiver datagram taken.NoAnswer new = (given : Given)
     × Takes old.manager (now / 1000) datagram (Some (Ok given)) new.manager × LeavesAll old before receiver given new
 ReceiverHappens old before now receiver datagram (taken.Heard n) new =

@@ -1,7 +1,7 @@
 -- What is sent as an Inform, and what its receiver is sent for it (RFC 3413, section 3.3; RFC 3414, section 4; RFC
 -- 3416, section 4.2.7).
 --
--- `IsInformOf`: the Inform by which a receiver is told what a device sent. `IsInformFor`: the same, if it may be
+-- `IsInformOf`: the Inform by which a receiver is notified of what a device sent. `IsInformFor`: the same, if it may be
 -- notified. `IsMediated`: an Inform is one of these. `inform_to`: as what it goes out. `SealsTimeRequest`,
 -- `SealsInform`: what comes of sealing the request for an engine's boots and time, and an Inform. `SendsDiscovery`,
 -- `SendsTimeRequest`, `SendsInform`: the message that goes out, and what is remembered of it.
@@ -34,7 +34,7 @@ use Rattle.snmp_forward.specs.declared.notification.NotNotification.{NotNotifica
 use Rattle.snmp_forward.specs.declared.receivers.Receiver.{Receiver}
 use Rattle.snmp_forward.specs.declared.sealing.Sealing.{Sealing}
 
--- the receiver with this number is told what a device sent, in the device's context
+-- the receiver with this number is notified of what a device sent, in the device's context
 pub record IsInformOf (number : ℕ) (to : Receiver) (context datagram : List ℕ) (i : Inform) : Type 0 where
   pub receiver : i.receiver ≡ number
   pub user : i.user.items ≡ to.user.items

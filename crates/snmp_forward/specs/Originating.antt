@@ -28,7 +28,7 @@ use Rattle.snmp_forward.specs.declared.originator.Originator.{Originator}
 use Rattle.snmp_forward.specs.declared.trap.Written.{Written}
 use Rattle.snmp_forward.specs.declared.trap.Written.TheVariants.{Refused, Sends}
 
--- ---- what is told
+-- ---- what is reported
 
 abbrev pub trap_told : ℕ → ℕ → Written → Originated
 trap_told number receiver (Sends datagram) = out.Trap number receiver datagram

@@ -1,4 +1,4 @@
--- What comes to a forwarder and goes out of it, call by call.
+-- What a forwarder gets and what goes out of it, call by call.
 --
 -- `Event`: a call and its answer. `IsRun`: the events of a forwarder, the latest first. `came`, `went_out`: the
 -- notifications that came to wait, and the datagrams that went out. `turned`: the Informs that notifications became.

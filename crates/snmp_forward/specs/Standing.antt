@@ -3,7 +3,7 @@
 -- `ForwarderStands`: all that is known of it. `TrapHappens`, `SendHappens`: what happens by a call, and that it is
 -- lawful after what happened before. `IsTrapTaken`: what becomes of a device's datagram. `Stays`: what never changes.
 -- `IsAsBefore`: nothing changes.
-use Rattle.std.specs.Prelude.{◌≡◌, ◌<◌, ◌≤◌, ◌/◌, ◌%◌, ℕ, List, ◌∷◌, All, AllPairs, Contains, length}
+use Rattle.std.specs.Prelude.{◌≡◌, ◌≢◌, ◌<◌, ◌≤◌, ◌/◌, ◌%◌, ℕ, List, [], ◌∷◌, All, AllPairs, Contains, length}
 use Rattle.vacm_core.specs.Tables.{Tables}
 use Rattle.snmp_gate.specs.declared.asks.TheConstants.{REQUEST_IDS}
 use Rattle.snmp_gate.specs.declared.devices.Device.{Device}
@@ -28,9 +28,15 @@ pub record WaitingStands (tables : Tables) (devices : List Device) (receivers : 
   pub left : left_in w.number before ≡ w.left
   pub may : All (MayBeSent tables devices receivers w.device w.datagram) w.left
 
+-- the notification of this number is among them
+abbrev pub IsKept : List Waiting → ℕ → Type 0
+IsKept ws n = (w : Waiting) × Contains ws w × (w.number ≡ n)
+
 pub record QueueStands (tables : Tables) (devices : List Device) (receivers : List Receiver)
     (before : List Happening) (next : ℕ) (ws : List Waiting) : Type 0 where
   pub all : All (WaitingStands tables devices receivers before) ws
+  -- each waits that has receivers left
+  pub kept : (n : ℕ) → left_in n before ≢ [] → IsKept ws n
   -- their numbers rise
   pub rise : AllPairs (λ (a b : Waiting). a.number < b.number) ws
   -- nothing happened to a later one

@@ -1,6 +1,6 @@
 -- What becomes of a notification for a receiver.
 --
--- `IsWritten`: what comes of sealing it as a Trap. `told_as`: as what that is told. `GoesAsInform`, `GoesAsTrap`: as
+-- `IsWritten`: what comes of sealing it as a Trap. `told_as`: as what it is reported. `GoesAsInform`, `GoesAsTrap`: as
 -- what the notification that waits longest goes to the first of its receivers.
 use Rattle.std.specs.Prelude.{◌≡◌, ℕ, List, Err, None, Ok, Option, Some, slice_get}
 use Rattle.snmp_msg.specs.Pdu.{PduParts}

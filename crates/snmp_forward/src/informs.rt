@@ -105,7 +105,8 @@ pub(crate) fn forget(requests: &mut OutstandingRequests, token: Option<u64>)
 
 /// The message with this token isn't waited for any more, unless another answer to it may come.
 fn settle(requests: &mut OutstandingRequests, step: NextStep, token: u64)
-    ensures { KeepsRequests requests.old requests.new }
+    ensures keeps { KeepsRequests requests.old requests.new }
+    ensures waits { step ≡ NextStep.Wait → requests.new ≡ requests.old }
 {
     if step != NextStep::Wait {
         requests.give_up(token);
@@ -250,7 +251,7 @@ impl Informs {
         ensures happens { (before : List InformHappening) (given : Given) (w : WaitingInform)
             → InformsStand before self.old → given.engine ≡ engine.now → IsAt self.old place w
             → IsAnswered before w given answered.heard
-            → HeardHappens self.old before w.inform.receiver given holds_clock result self.new }
+            → HeardHappens self.old before w.inform.receiver given holds_clock answered.heard result self.new }
         ensures same { IsSameElse self.old self.new }
     {
         let number = self.list[place].number;

@@ -341,7 +341,10 @@ pub use inform_laws::{
     informs_are_sent_to_their_receivers,
 };
 pub use informs::{InformSent, Informs, ReceiverTaken};
-pub use laws::{each_receiver_has_its_turn, notifications_are_mediated, one_notification};
+pub use laws::{
+    each_receiver_has_its_turn, no_notification_vanishes, notifications_are_mediated,
+    one_notification,
+};
 pub use notification::{DeviceNotification, NotNotification, read_device_notification};
 pub use originator::{Originated, Originator};
 pub use originator_laws::notifications_are_originated;

@@ -206,7 +206,7 @@ open_of : (device id : ℕ) (w : Work) → WaitsFor device id w → (o : OpenReq
 open_of device id (Open o) waits = (o, refl, waits.0, waits.1)
 open_of device id (Ends e) waits = absurd waits
 
--- all that an answer says is told
+-- all that an answer says is reported
 says_all : (n device id : ℕ) (what : RequestPdu) (answer : Pdu) (datagram : List ℕ) (before : List Happening) → open_ask n before ≡ Some (record { device = device; id = id; request = what })
     → SaysAll what answer (told_in n (answered n device (pdu_of answer) datagram ∷ before))
 says_all n device id what answer datagram before is =
@@ -229,7 +229,7 @@ says_all n device id what answer datagram before is =
       exchange = subst (λ (all : Said). Contains all.exchanges exchange) full (Contains-append_left (exchange ∷ []) told.exchanges exchange (Contains-push [] exchange));
     }
 
--- as much is told as before
+-- as much is reported as before
 told_more : (n device : ℕ) (p : PduParts) (datagram : List ℕ) (before : List Happening) → HasAll (told_in n before) (told_in n (answered n device p datagram ∷ before))
 told_more n device p datagram before =
     let told = told_in n before in
@@ -318,7 +318,7 @@ one_head a b xs ys is = cc
 same_some : {A : Type 0} (a b : A) → Some a ≡ Some b → a ≡ b
 same_some a b is = cc
 
--- as much is told as before
+-- as much is reported as before
 asked_has : (n device id : ℕ) (what : RequestPdu) (datagram : List ℕ) (before : List Happening) → HasAll (told_in n before) (told_in n (asked n device id what datagram ∷ before))
 asked_has n device id what datagram before =
     let told = told_in n before in

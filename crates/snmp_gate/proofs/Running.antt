@@ -3,6 +3,7 @@ use Rattle.std.specs.Prelude.{◌≡◌, ◌/◌, ℕ, List, [], ◌∷◌, ◌+
 use Rattle.std.specs.List.{HoldsAt}
 use Rattle.std.proofs.Common.{refl, sym, ap, subst, ◌∙◌, inl, inr, append_assoc}
 use Rattle.std.proofs.lemmas.Bool.Decides.{eqb_tells}
+use Rattle.std.proofs.lemmas.List.Elements.{All-cons, All-nil}
 use Rattle.vacm_core.specs.Tables.{Tables}
 use Rattle.snmp_incoming.specs.Outcome.{Outcome}
 use Rattle.snmp_agent.specs.Agent.{AgentState, taker_of}
@@ -11,7 +12,7 @@ use Rattle.snmp_gate.specs.Limits.{AlwaysKeepsTo, IsTriedFew, KeepsTo, WaitInTim
 use Rattle.snmp_gate.specs.History.{Happening, IsMediated, MayAskFor, accepted, answered, asked, given_up, sent, told_in, unanswered, waiting_in}
 use Rattle.snmp_gate.specs.Lawful.{AreLawful, IsLawful}
 use Rattle.snmp_gate.specs.Replies.{IsAnswerTo, SameAgent, answer_with}
-use Rattle.snmp_gate.specs.Runs.{Event, IsHistoryOf, IsRun, accepted_for, asked_in, client_comes, device_comes, ended_for, finds_no_memory, goes_out, moment_of, sent_in, to_clients, to_devices}
+use Rattle.snmp_gate.specs.Runs.{Event, IsHistoryOf, IsRun, IsSealedBy, accepted_for, accepted_in, answered_in, answers_of, asked_in, client_comes, device_comes, ended_for, finds_no_memory, goes_out, moment_of, sealed_in, sealed_with, sent_in, taken_from, to_clients, to_devices}
 use Rattle.snmp_gate.specs.Waiting.{ClientHappens, DeviceHappens, Fresh, GateStands, Happens, SendHappens, Stays}
 use Rattle.snmp_gate.specs.declared.devices.Device.{Device}
 use Rattle.snmp_gate.specs.declared.devices.Devices.{Devices}
@@ -75,9 +76,14 @@ tried_few first middle before e stays tried = subst (λ (l : GateLimits). IsTrie
 
 -- a history with what happens now
 happened : (first middle last : Gate) (now : ℕ) (e : Happening) (history : List Happening) (events : List Event) (event : Event) → Stays first middle → IsHistoryOf first events history → Happens middle now history e last
+    → taken_from (event ∷ events) ≡ accepted_in (e ∷ history) → answers_of (event ∷ events) ≡ answered_in (e ∷ history) → sealed_with (event ∷ events) ≡ sealed_in (e ∷ history) → IsSealedBy first.agent e
     → to_devices (event ∷ events) ≡ asked_in (e ∷ history) → to_clients (event ∷ events) ≡ sent_in (e ∷ history) → IsHistoryOf first (event ∷ events) (e ∷ history)
-happened first middle last now e history events event stays is happens devices clients = record {
+happened first middle last now e history events event stays is happens requests answers seals own devices clients = record {
   lawful = (lawful_same first middle history e stays happens.lawful, is.lawful);
+  requests = requests;
+  answers = answers;
+  seals = seals;
+  senders = All-cons (IsSealedBy first.agent) e history own is.senders;
   devices = devices;
   clients = clients;
 }
@@ -86,39 +92,39 @@ client_stands : (first middle last : Gate) (now : ℕ) (from w : List ℕ) (take
     → RunStands first (client_comes now from w taken ∷ events) last
 client_stands first middle last now from w (client.Begins n) events known stays happens = record {
   history = accepted n now w happens.0 ∷ known.history;
-  is = happened first middle last now (accepted n now w happens.0) known.history events (client_comes now from w (client.Begins n)) known.stays known.is happens.2 known.is.devices known.is.clients;
+  is = happened first middle last now (accepted n now w happens.0) known.history events (client_comes now from w (client.Begins n)) known.stays known.is happens.2 (λ i. (now, sym happens.1 i, w) ∷ known.is.requests i) known.is.answers known.is.seals tt known.is.devices known.is.clients;
   stands = happens.2.stands;
   stays = stays_on first middle last known.stays stays;
   keeps = λ b. (keeps_more first last now (accepted n now w happens.0 ∷ known.history) (stays_on first middle last known.stays stays) happens.2.stands b, tried_few first middle known.history (accepted n now w happens.0) known.stays happens.2.tried, known.keeps b);
 }
 client_stands first middle last now from w (client.Joins n) events known stays happens = record {
   history = accepted n now w happens.0 ∷ known.history;
-  is = happened first middle last now (accepted n now w happens.0) known.history events (client_comes now from w (client.Joins n)) known.stays known.is happens.2 known.is.devices known.is.clients;
+  is = happened first middle last now (accepted n now w happens.0) known.history events (client_comes now from w (client.Joins n)) known.stays known.is happens.2 (λ i. (now, sym happens.1 i, w) ∷ known.is.requests i) known.is.answers known.is.seals tt known.is.devices known.is.clients;
   stands = happens.2.stands;
   stays = stays_on first middle last known.stays stays;
   keeps = λ b. (keeps_more first last now (accepted n now w happens.0 ∷ known.history) (stays_on first middle last known.stays stays) happens.2.stands b, tried_few first middle known.history (accepted n now w happens.0) known.stays happens.2.tried, known.keeps b);
 }
-client_stands first middle last now from w (client.Refused why) events known stays happens = record { history = known.history; is = record { lawful = known.is.lawful; devices = known.is.devices; clients = known.is.clients }; stands = happens; stays = stays_on first middle last known.stays stays; keeps = known.keeps }
-client_stands first middle last now from w client.NoRoom events known stays happens = record { history = known.history; is = record { lawful = known.is.lawful; devices = known.is.devices; clients = known.is.clients }; stands = happens; stays = stays_on first middle last known.stays stays; keeps = known.keeps }
-client_stands first middle last now from w client.SetOfBefore events known stays happens = record { history = known.history; is = record { lawful = known.is.lawful; devices = known.is.devices; clients = known.is.clients }; stands = happens; stays = stays_on first middle last known.stays stays; keeps = known.keeps }
+client_stands first middle last now from w (client.Refused why) events known stays happens = record { history = known.history; is = record { lawful = known.is.lawful; requests = known.is.requests; answers = known.is.answers; seals = known.is.seals; senders = known.is.senders; devices = known.is.devices; clients = known.is.clients }; stands = happens; stays = stays_on first middle last known.stays stays; keeps = known.keeps }
+client_stands first middle last now from w client.NoRoom events known stays happens = record { history = known.history; is = record { lawful = known.is.lawful; requests = known.is.requests; answers = known.is.answers; seals = known.is.seals; senders = known.is.senders; devices = known.is.devices; clients = known.is.clients }; stands = happens; stays = stays_on first middle last known.stays stays; keeps = known.keeps }
+client_stands first middle last now from w client.SetOfBefore events known stays happens = record { history = known.history; is = record { lawful = known.is.lawful; requests = known.is.requests; answers = known.is.answers; seals = known.is.seals; senders = known.is.senders; devices = known.is.devices; clients = known.is.clients }; stands = happens; stays = stays_on first middle last known.stays stays; keeps = known.keeps }
 
 device_stands : (first middle last : Gate) (now number : ℕ) (w : List ℕ) (taken : DeviceTaken) (events : List Event) (known : RunStands first events middle) → Stays middle last → DeviceHappens middle now known.history number w taken last
     → RunStands first (device_comes now number w taken ∷ events) last
 device_stands first middle last now number w (device.Answers n why hidden) events known stays happens = record {
   history = answered n number happens.0 w ∷ known.history;
-  is = happened first middle last now (answered n number happens.0 w) known.history events (device_comes now number w (device.Answers n why hidden)) known.stays known.is happens.1 known.is.devices known.is.clients;
+  is = happened first middle last now (answered n number happens.0 w) known.history events (device_comes now number w (device.Answers n why hidden)) known.stays known.is happens.1 known.is.requests (λ i. (number, w) ∷ known.is.answers i) known.is.seals tt known.is.devices known.is.clients;
   stands = happens.1.stands;
   stays = stays_on first middle last known.stays stays;
   keeps = λ b. (keeps_more first last now (answered n number happens.0 w ∷ known.history) (stays_on first middle last known.stays stays) happens.1.stands b, tried_few first middle known.history (answered n number happens.0 w) known.stays happens.1.tried, known.keeps b);
 }
-device_stands first middle last now number w device.Unreadable events known stays happens = record { history = known.history; is = record { lawful = known.is.lawful; devices = known.is.devices; clients = known.is.clients }; stands = happens; stays = stays_on first middle last known.stays stays; keeps = known.keeps }
-device_stands first middle last now number w device.NotWaitedFor events known stays happens = record { history = known.history; is = record { lawful = known.is.lawful; devices = known.is.devices; clients = known.is.clients }; stands = happens; stays = stays_on first middle last known.stays stays; keeps = known.keeps }
+device_stands first middle last now number w device.Unreadable events known stays happens = record { history = known.history; is = record { lawful = known.is.lawful; requests = known.is.requests; answers = known.is.answers; seals = known.is.seals; senders = known.is.senders; devices = known.is.devices; clients = known.is.clients }; stands = happens; stays = stays_on first middle last known.stays stays; keeps = known.keeps }
+device_stands first middle last now number w device.NotWaitedFor events known stays happens = record { history = known.history; is = record { lawful = known.is.lawful; requests = known.is.requests; answers = known.is.answers; seals = known.is.seals; senders = known.is.senders; devices = known.is.devices; clients = known.is.clients }; stands = happens; stays = stays_on first middle last known.stays stays; keeps = known.keeps }
 
 send_stands : (first middle last : Gate) (now : ℕ) (f : Fresh) (what : Sent) (events : List Event) (known : RunStands first events middle) → Stays middle last → SendHappens middle now known.history f what last → RunStands first (goes_out now f what ∷ events) last
 send_stands first middle last now f (out.ToClient n to says w) events known stays happens =
     let e = sent n happens.0 (record { agent = middle.agent; now = now / 1000; salt = f.salt }) (answer_with says w) in record {
       history = e ∷ known.history;
-      is = happened first middle last now e known.history events (goes_out now f (out.ToClient n to says w)) known.stays known.is happens.2 known.is.devices
+      is = happened first middle last now e known.history events (goes_out now f (out.ToClient n to says w)) known.stays known.is happens.2 known.is.requests known.is.answers (λ i. (now / 1000, f.salt) ∷ known.is.seals i) known.stays.agent known.is.devices
           (λ i. ((happens.1 i).items, answer_with says w) ∷ known.is.clients i);
       stands = happens.2.stands;
       stays = stays_on first middle last known.stays stays;
@@ -127,7 +133,7 @@ send_stands first middle last now f (out.ToClient n to says w) events known stay
 send_stands first middle last now f (out.ToDevice n to w) events known stays happens =
     let e = asked n to happens.0 happens.1 w.items in record {
       history = e ∷ known.history;
-      is = happened first middle last now e known.history events (goes_out now f (out.ToDevice n to w)) known.stays known.is happens.3 (λ i. (to, w.items) ∷ known.is.devices i) known.is.clients;
+      is = happened first middle last now e known.history events (goes_out now f (out.ToDevice n to w)) known.stays known.is happens.3 known.is.requests known.is.answers known.is.seals tt (λ i. (to, w.items) ∷ known.is.devices i) known.is.clients;
       stands = happens.3.stands;
       stays = stays_on first middle last known.stays stays;
       keeps = λ b. (keeps_more first last now (e ∷ known.history) (stays_on first middle last known.stays stays) happens.3.stands b, tried_few first middle known.history e known.stays happens.3.tried, known.keeps b);
@@ -135,7 +141,7 @@ send_stands first middle last now f (out.ToDevice n to w) events known stays hap
 send_stands first middle last now f (out.Unanswered n why) events known stays happens =
     let e = unanswered n happens.0 in record {
       history = e ∷ known.history;
-      is = happened first middle last now e known.history events (goes_out now f (out.Unanswered n why)) known.stays known.is happens.1 known.is.devices known.is.clients;
+      is = happened first middle last now e known.history events (goes_out now f (out.Unanswered n why)) known.stays known.is happens.1 known.is.requests known.is.answers known.is.seals tt known.is.devices known.is.clients;
       stands = happens.1.stands;
       stays = stays_on first middle last known.stays stays;
       keeps = λ b. (keeps_more first last now (e ∷ known.history) (stays_on first middle last known.stays stays) happens.1.stands b, tried_few first middle known.history e known.stays happens.1.tried, known.keeps b);
@@ -143,17 +149,17 @@ send_stands first middle last now f (out.Unanswered n why) events known stays ha
 send_stands first middle last now f (out.GivenUp n to) events known stays happens =
     let e = given_up n to in record {
       history = e ∷ known.history;
-      is = happened first middle last now e known.history events (goes_out now f (out.GivenUp n to)) known.stays known.is happens known.is.devices known.is.clients;
+      is = happened first middle last now e known.history events (goes_out now f (out.GivenUp n to)) known.stays known.is happens known.is.requests known.is.answers known.is.seals tt known.is.devices known.is.clients;
       stands = happens.stands;
       stays = stays_on first middle last known.stays stays;
       keeps = λ b. (keeps_more first last now (e ∷ known.history) (stays_on first middle last known.stays stays) happens.stands b, tried_few first middle known.history e known.stays happens.tried, known.keeps b);
     }
-send_stands first middle last now f out.Nothing events known stays happens = record { history = known.history; is = record { lawful = known.is.lawful; devices = known.is.devices; clients = known.is.clients }; stands = happens; stays = stays_on first middle last known.stays stays; keeps = known.keeps }
+send_stands first middle last now f out.Nothing events known stays happens = record { history = known.history; is = record { lawful = known.is.lawful; requests = known.is.requests; answers = known.is.answers; seals = known.is.seals; senders = known.is.senders; devices = known.is.devices; clients = known.is.clients }; stands = happens; stays = stays_on first middle last known.stays stays; keeps = known.keeps }
 
 pub run_stands : (first : Gate) (events : List Event) (last : Gate) → GateStands 0 [] first → IsRun first events last → RunStands first events last
 run_stands first [] last stands run = subst (RunStands first []) (sym run) (record {
   history = [];
-  is = record { lawful = tt; devices = refl; clients = refl };
+  is = record { lawful = tt; requests = refl; answers = refl; seals = refl; senders = All-nil (IsSealedBy first.agent); devices = refl; clients = refl };
   stands = stands;
   stays = stays_same first;
   keeps = λ b. tt;
@@ -170,7 +176,7 @@ run_stands first (goes_out now f what ∷ events) last stands run =
 run_stands first (finds_no_memory now ∷ events) last stands run =
     let known = run_stands first events run.1.0 stands run.1.1 in record {
       history = known.history;
-      is = record { lawful = known.is.lawful; devices = known.is.devices; clients = known.is.clients };
+      is = record { lawful = known.is.lawful; requests = known.is.requests; answers = known.is.answers; seals = known.is.seals; senders = known.is.senders; devices = known.is.devices; clients = known.is.clients };
       stands = run.1.3.stands (moment_of events) known.history run.0 known.stands;
       stays = stays_on first run.1.0 last known.stays run.1.2;
       keeps = known.keeps;

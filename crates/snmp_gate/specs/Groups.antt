@@ -36,7 +36,7 @@ module _ {M W : Type 0} where
     pub within : place < length groups
     pub group_is : group ≡ slice_index_or groups place group
 
-  -- the message asks the request at a place again: it stands behind the others, unless there are as many as may be
+  -- the message asks the request at a place again: it comes after the others, unless there are as many as may be
   abbrev pub IsJoined : ℕ → List (Group M W) → ℕ → M → List (Group M W) → Joined → Type 0
   IsJoined most old place message new joined.Joined = (g : Group M W) × IsAt old place g
       × (length g.messages < most)

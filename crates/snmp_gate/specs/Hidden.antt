@@ -2,7 +2,7 @@
 --
 -- `IsHiddenCount`: the number of the variables whose names aren't in a view. `TaskHides`, `WorkHides`: that of the
 -- bindings of an answer to what a device is asked for a request. `IsHiddenTold`: what is said of a datagram. The
--- bindings of an answer to a SetRequest aren't counted: a client is told of it only whether the Set was done.
+-- bindings of an answer to a SetRequest aren't counted: a client learns only whether the Set was done.
 use Rattle.std.specs.Prelude.{◌≡◌, ◌⊎◌, ◌<◌, ◌+◌, ⊤, ℕ, pos, List, [], ◌∷◌, Some, length}
 use Rattle.std.specs.List.{HoldsAt}
 use Rattle.snmp_msg.specs.Pdu.{PduParts}

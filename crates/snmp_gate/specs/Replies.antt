@@ -38,7 +38,7 @@ use Rattle.snmp_gate.specs.declared.reply.Sealing.{Sealing}
 use Rattle.snmp_gate.specs.declared.set_answer.ResponseStatus.{ResponseStatus}
 use Rattle.snmp_gate.specs.declared.set_answer.TheConstants.{NO_ERROR, TOO_BIG}
 
--- what is told of a request: error-status, error-index and bindings
+-- what is reported of a request: error-status, error-index and bindings
 pub record Told : Type 0 where
   pub status : ℤ
   pub index : ℤ

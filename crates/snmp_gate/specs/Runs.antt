@@ -1,16 +1,20 @@
--- What comes to a gateway and goes out of it, call by call.
+-- What a gateway gets and what goes out of it, call by call.
 --
 -- `Event`: a call and its answer. `IsRun`: the events of a gateway, the latest first, where moments don't go back.
--- `to_devices`, `to_clients`: the datagrams that went out. `asked_in`, `sent_in`: those of a history. `IsHistoryOf`: a
--- history of these events that is lawful. `accepted_for`, `ended_for`: the messages of a request.
-use Rattle.std.specs.Prelude.{◌≡◌, ◌≤◌, cond, nat_eq, ℕ, List, [], ◌∷◌, ◌++◌}
+-- `taken_from`, `answers_of`: the datagrams that came and were taken. `to_devices`, `to_clients`: those that went out.
+-- `accepted_in`, `answered_in`, `asked_in`, `sent_in`: those of a history. `IsHistoryOf`: a lawful history of these
+-- events. `accepted_for`, `ended_for`: the messages of a request.
+use Rattle.std.specs.Prelude.{◌≡◌, ◌≤◌, ◌/◌, ⊤, cond, nat_eq, ℕ, List, [], ◌∷◌, ◌++◌, All}
+use Rattle.snmp_agent.specs.Agent.{AgentState}
 use Rattle.snmp_gate.specs.Due.{AreIdle}
 use Rattle.snmp_gate.specs.History.{Happening, accepted, answered, asked, given_up, sent, unanswered}
 use Rattle.snmp_gate.specs.Lawful.{AreLawful}
-use Rattle.snmp_gate.specs.Replies.{ClientAnswer, answer_with}
+use Rattle.snmp_gate.specs.Replies.{ClientAnswer, SameAgent, answer_with}
 use Rattle.snmp_gate.specs.Waiting.{ClientHappens, DeviceHappens, Fresh, GateStands, IsAsBefore, SendHappens, Stays}
 use Rattle.snmp_gate.specs.declared.gate.ClientTaken.{ClientTaken}
+use Rattle.snmp_gate.specs.declared.gate.ClientTaken.TheVariants.{Begins, Joins}
 use Rattle.snmp_gate.specs.declared.gate.DeviceTaken.{DeviceTaken}
+use Rattle.snmp_gate.specs.declared.gate.DeviceTaken.TheVariants.{Answers}
 use Rattle.snmp_gate.specs.declared.gate.Gate.{Gate}
 use Rattle.snmp_gate.specs.declared.gate.Sent.{Sent}
 use Rattle.snmp_gate.specs.declared.gate.Sent.TheVariants.{Nothing, ToClient, ToDevice}
@@ -64,6 +68,34 @@ IsRun first (goes_out now f what ∷ before) last = (moment_of before ≤ now)
 IsRun first (finds_no_memory now ∷ before) last = (moment_of before ≤ now)
     × ((middle : Gate) × IsRun first before middle × Stays middle last × IsAsBefore now middle last)
 
+-- ---- what came
+
+-- the datagram of a client that was accepted, with its moment and the client's address
+abbrev pub accepted_by : ℕ → List ℕ → List ℕ → ClientTaken → List (ℕ × List ℕ × List ℕ)
+accepted_by now client datagram (Begins number) = (now, client, datagram) ∷ []
+accepted_by now client datagram (Joins number) = (now, client, datagram) ∷ []
+accepted_by now client datagram _ = []
+
+abbrev pub taken_from : List Event → List (ℕ × List ℕ × List ℕ)
+taken_from [] = []
+taken_from (client_comes now client datagram taken ∷ before) =
+    accepted_by now client datagram taken ++ taken_from before
+taken_from (device_comes now device datagram taken ∷ before) = taken_from before
+taken_from (goes_out now f what ∷ before) = taken_from before
+taken_from (finds_no_memory now ∷ before) = taken_from before
+
+-- the datagram of a device that was taken as an answer, with the device's number
+abbrev pub answer_by : ℕ → List ℕ → DeviceTaken → List (ℕ × List ℕ)
+answer_by device datagram (Answers number fault hidden) = (device, datagram) ∷ []
+answer_by device datagram _ = []
+
+abbrev pub answers_of : List Event → List (ℕ × List ℕ)
+answers_of [] = []
+answers_of (device_comes now device datagram taken ∷ before) = answer_by device datagram taken ++ answers_of before
+answers_of (client_comes now client datagram taken ∷ before) = answers_of before
+answers_of (goes_out now f what ∷ before) = answers_of before
+answers_of (finds_no_memory now ∷ before) = answers_of before
+
 -- ---- what went out
 
 -- to a device, by its number, or to a client, by its address
@@ -89,7 +121,56 @@ to_clients (client_comes now client datagram taken ∷ before) = to_clients befo
 to_clients (device_comes now device datagram taken ∷ before) = to_clients before
 to_clients (finds_no_memory now ∷ before) = to_clients before
 
+-- the moments, in seconds, and the salts of what went out to clients
+abbrev pub sealed_by : ℕ → Fresh → Sent → List (ℕ × List ℕ)
+sealed_by now f (ToClient number client says datagram) = (now / 1000, f.salt) ∷ []
+sealed_by now f _ = []
+
+abbrev pub sealed_with : List Event → List (ℕ × List ℕ)
+sealed_with [] = []
+sealed_with (goes_out now f what ∷ before) = sealed_by now f what ++ sealed_with before
+sealed_with (client_comes now client datagram taken ∷ before) = sealed_with before
+sealed_with (device_comes now device datagram taken ∷ before) = sealed_with before
+sealed_with (finds_no_memory now ∷ before) = sealed_with before
+
 -- the same, of a history
+abbrev pub accepted_in : List Happening → List (ℕ × List ℕ × List ℕ)
+accepted_in [] = []
+accepted_in (accepted number now datagram message ∷ before) =
+    (now, message.client.items, datagram) ∷ accepted_in before
+accepted_in (asked number device id request datagram ∷ before) = accepted_in before
+accepted_in (answered number device answer datagram ∷ before) = accepted_in before
+accepted_in (sent number message by answer ∷ before) = accepted_in before
+accepted_in (unanswered number message ∷ before) = accepted_in before
+accepted_in (given_up number device ∷ before) = accepted_in before
+
+abbrev pub answered_in : List Happening → List (ℕ × List ℕ)
+answered_in [] = []
+answered_in (answered number device answer datagram ∷ before) = (device, datagram) ∷ answered_in before
+answered_in (accepted number now datagram message ∷ before) = answered_in before
+answered_in (asked number device id request datagram ∷ before) = answered_in before
+answered_in (sent number message by answer ∷ before) = answered_in before
+answered_in (unanswered number message ∷ before) = answered_in before
+answered_in (given_up number device ∷ before) = answered_in before
+
+abbrev pub sealed_in : List Happening → List (ℕ × List ℕ)
+sealed_in [] = []
+sealed_in (sent number message by answer ∷ before) = (by.now, by.salt) ∷ sealed_in before
+sealed_in (accepted number now datagram message ∷ before) = sealed_in before
+sealed_in (asked number device id request datagram ∷ before) = sealed_in before
+sealed_in (answered number device answer datagram ∷ before) = sealed_in before
+sealed_in (unanswered number message ∷ before) = sealed_in before
+sealed_in (given_up number device ∷ before) = sealed_in before
+
+-- what is sent is sealed by this agent, whatever it has counted meanwhile
+abbrev pub IsSealedBy : AgentState → Happening → Type 0
+IsSealedBy agent (sent number message by answer) = SameAgent agent by.agent
+IsSealedBy agent (accepted number now datagram message) = ⊤
+IsSealedBy agent (asked number device id request datagram) = ⊤
+IsSealedBy agent (answered number device answer datagram) = ⊤
+IsSealedBy agent (unanswered number message) = ⊤
+IsSealedBy agent (given_up number device) = ⊤
+
 abbrev pub asked_in : List Happening → List (ℕ × List ℕ)
 asked_in [] = []
 asked_in (asked number device id request datagram ∷ before) = (device, datagram) ∷ asked_in before
@@ -108,9 +189,14 @@ sent_in (answered number device answer datagram ∷ before) = sent_in before
 sent_in (unanswered number message ∷ before) = sent_in before
 sent_in (given_up number device ∷ before) = sent_in before
 
--- what went out is what was asked and sent, and all of it is lawful
+-- what came is what was accepted and answered, what went out is what was asked and sent, by the gateway's agent at that
+-- moment and with that salt, and all of it is lawful
 pub record IsHistoryOf (gate : Gate) (events : List Event) (history : List Happening) : Type 0 where
   pub lawful : AreLawful gate.agent gate.devices.list.items history
+  pub requests : taken_from events ≡ accepted_in history
+  pub answers : answers_of events ≡ answered_in history
+  pub seals : sealed_with events ≡ sealed_in history
+  pub senders : All (IsSealedBy gate.agent) history
   pub devices : to_devices events ≡ asked_in history
   pub clients : to_clients events ≡ sent_in history
 

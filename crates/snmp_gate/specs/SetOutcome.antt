@@ -9,7 +9,7 @@ pub record IsErrorStatus (status : ℤ) : Type 0 where
   pub least : NO_ERROR ≤ℤ status
   pub most : status ≤ℤ INCONSISTENT_NAME
 
--- the error-status is told as it is; any other number is genErr
+-- the error-status is reported as it is; any other number is genErr
 abbrev pub IsToldStatus : ℤ → ℤ → Type 0
 IsToldStatus status told = (IsErrorStatus status × (told ≡ status)) ⊎ ((¬ IsErrorStatus status) × (told ≡ GEN_ERR))
 
@@ -26,7 +26,7 @@ pub record IsOfBinding (status index : ℤ) (bindings : ℕ) : Type 0 where
   pub not_size : status ≢ TOO_BIG
   pub number : IsNumberOfBinding index bindings
 
--- the error-index is told as it is if it is that of a binding, and else it is 0
+-- the error-index is reported as it is if it is that of a binding, and else it is 0
 abbrev pub IsToldIndex : ℤ → ℤ → ℕ → ℤ → Type 0
 IsToldIndex status index bindings told = (IsOfBinding status index bindings × (told ≡ index))
     ⊎ ((¬ IsOfBinding status index bindings) × (told ≡ pos 0))

@@ -12,7 +12,7 @@ use Rattle.snmp_gate.specs.declared.sets.SetNote.{SetNote}
 use Rattle.snmp_gate.specs.declared.sets.SetNote.TheVariants.{New, Repeated, NoRoom}
 use Rattle.snmp_gate.specs.declared.sets.TheConstants.{REMEMBERED}
 
--- what happens: a Set comes, its outcome is told, or those that came too long ago are forgotten
+-- what happens: a Set comes, its outcome is reported, or those that came too long ago are forgotten
 pub data SetStep : Type 0 where
   notes : (now : ℕ) (digest : List ℕ) (note : SetNote) → SetStep
   tells : (digest : List ℕ) (outcome : ResponseStatus) → SetStep

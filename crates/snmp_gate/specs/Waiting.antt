@@ -236,11 +236,20 @@ SendHappens old now before f out.Nothing new = GateStands now before new
 abbrev pub AsksNothing : DeviceAsks → Type 0
 AsksNothing asks = asks.asks.items ≡ []
 
--- if a client's datagram is refused, the agent refuses it so, counts it and writes the report (RFC 3412, section 7.2)
+-- nothing changed but the agent
+pub record IsSameElse (old new : Gate) : Type 0 where
+  pub devices : new.devices ≡ old.devices
+  pub limits : new.limits ≡ old.limits
+  pub requests : new.requests ≡ old.requests
+  pub asks : new.asks ≡ old.asks
+  pub sets : new.sets ≡ old.sets
+
+-- if a client's datagram is refused, the agent refuses it so, counts it and writes the report (RFC 3412, section 7.2),
+-- and nothing else changes
 abbrev pub IsRefusedBy : Gate → ℕ → List ℕ → Gate → ClientTaken → Type 0
 IsRefusedBy old seconds datagram new (client.Refused r) =
     AgentTakes old.agent seconds datagram (refusal_answer r.why.refusal) new.agent
-    × AgentReports new.agent seconds datagram (in_table r.why.refusal) (report_of r.report)
+    × (AgentReports new.agent seconds datagram (in_table r.why.refusal) (report_of r.report) × IsSameElse old new)
 IsRefusedBy old seconds datagram new _ = ⊤
 
 -- the same engine, boots, users, tables, devices and limits, and it keeps to them

@@ -2,6 +2,8 @@
 
 ghost use Rattle.std.specs.Prelude.{◌≡◌, ◌⊎◌, ℕ, ◌+◌, ◌*◌, ◌^◌, ◌<◌, ◌≤◌, max, List, [], length, All, Bool, count_by};
 ghost use Rattle.std.specs.Prelude.{◌++◌, ◌∷◌, Some};
+ghost use Rattle.snmp_msg.specs.Pdu.{PduParts};
+ghost use Rattle.snmp_gate.specs.declared.gate.ClientTaken.TheVariants as ClientTaken;
 ghost use Rattle.snmp_agent.specs.Agent.{AgentState};
 ghost use Rattle.snmp_responder.specs.Instrumentation.{Known};
 ghost use Rattle.gateway_laws.specs.Device.{IsDevice};
@@ -10,7 +12,7 @@ ghost use Rattle.snmp_gate.specs.declared.asks.DeviceAsk.{DeviceAsk};
 ghost use Rattle.snmp_gate.specs.Groups.{Group};
 ghost use Rattle.snmp_gate.specs.GroupRuns.{AskOwn, AsksOneThing, GroupStep, HaveOwnNumbers, IsFew, IsGroupRun};
 ghost use Rattle.snmp_gate.specs.GroupRuns.{answered_by, taken_by, times_held};
-ghost use Rattle.snmp_gate.specs.History.{Happening, sent, told_in, waiting_in};
+ghost use Rattle.snmp_gate.specs.History.{Happening, accepted, answered, sent, told_in, waiting_in};
 ghost use Rattle.snmp_gate.specs.Lawful.{AreLawful, WasAsked};
 ghost use Rattle.snmp_gate.specs.Messages.{question_in, seen_in};
 ghost use Rattle.snmp_gate.specs.Question.{Question};
@@ -19,7 +21,8 @@ ghost use Rattle.snmp_gate.specs.Said.{AreTrue};
 ghost use Rattle.snmp_gate.specs.Through.{TellsDevice, TellsSet};
 ghost use Rattle.snmp_msg.specs.PduTypes.{pdu_tag};
 ghost use Rattle.snmp_msg.specs.declared.pdu_type.PduType.TheVariants.{SetRequest};
-ghost use Rattle.snmp_gate.specs.Runs.{Event, IsHistoryOf, IsRun, accepted_for, ended_for, goes_out};
+ghost use Rattle.snmp_gate.specs.Runs.{Event, IsHistoryOf, IsRun, accepted_for, client_comes, ended_for};
+ghost use Rattle.snmp_gate.specs.Runs.{goes_out};
 ghost use Rattle.snmp_gate.specs.Time.{AreAsks, IsDue, IsTimed, TimerStep};
 ghost use Rattle.snmp_gate.specs.SetRuns.{AreAsTold, ComesWithin, IsSetRun, SetStep, times_new};
 ghost use Rattle.snmp_gate.specs.Waiting.{Fresh, GateStands};
@@ -111,13 +114,26 @@ pub fn a_request_is_one_question<M: Drop, W: Drop, Q: Drop>()
 
 /// Whatever clients and devices send to a new gateway, and as long as its moments don't go back: what it sends has a
 /// history that is lawful. So nothing reaches a device but what an accepted message asks, and its sender may see, or
-/// set; nothing comes back that he may not see; and a Set goes out once. A call that found no memory isn't part of the
-/// history.
+/// set; nothing comes back that he may not see; and a Set goes out once. The accepted messages of the history are the
+/// datagrams of clients that were taken, each at its moment, and its answers are those of devices that were taken. What
+/// went out to a client was sealed by this agent, at the moment of that call and with its salt. A call that found no
+/// memory isn't part of the history.
 ///
 /// The events are calls of `take_client`, `take_device` and `next` with their answers, the latest first.
 pub fn a_gateway_mediates()
     ensures { (first last : Gate) (events : List Event) → GateStands 0 [] first → IsRun first events last
         → (history : List Happening) × IsHistoryOf first events history }
+{}
+
+/// What never came is in no history: no accepted message, and no answer of a device. What was taken from a client is in
+/// each.
+pub fn what_never_came_is_in_no_history()
+    ensures accepted { (gate : Gate) (number now : ℕ) (datagram : List ℕ) (message : WaitingMessage)
+        (before : List Happening) → ¬ IsHistoryOf gate [] (accepted number now datagram message ∷ before) }
+    ensures answered { (gate : Gate) (number device : ℕ) (answer : PduParts) (datagram : List ℕ)
+        (before : List Happening) → ¬ IsHistoryOf gate [] (answered number device answer datagram ∷ before) }
+    ensures taken { (gate : Gate) (now number : ℕ) (client datagram : List ℕ)
+        → ¬ IsHistoryOf gate (client_comes now client datagram (ClientTaken.Begins number) ∷ []) [] }
 {}
 
 /// What a client is sent in a lawful history for a request of a device that answers each time as RFC 3416 says, from

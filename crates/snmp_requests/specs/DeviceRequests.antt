@@ -111,7 +111,7 @@ IsSentNext x heard holds_clock m new =
     ⊎ ((TellsTime x heard × (m ≡ Request) × (new ≡ sending x m x.again))
     ⊎ (IsOutsideWindow x heard × (m ≡ Request) × (new ≡ sending x m true)))
 
--- it is none of what changes the turn
+-- it isn't one of those that change the turn
 pub record IsNoAnswer (x : DeviceRequest) (heard : Heard) : Type 0 where
   pub no_engine : TellsEngine x heard → ⊥
   pub no_time : TellsTime x heard → ⊥

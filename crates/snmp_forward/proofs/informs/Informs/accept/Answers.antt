@@ -7,7 +7,7 @@ use Rattle.snmp_incoming.specs.Answers.{given_of}
 use Rattle.snmp_forward.specs.InformStanding.{holds}
 use Rattle.snmp_forward.specs.WaitingInforms.{IsAsked, IsAskedAs}
 use Rattle.snmp_forward.specs.declared.waiting_inform.WaitingInform.{WaitingInform}
-use Rattle.snmp_forward.proofs.InformAnswers.{answer_as, answered_of, keeps_told, none_told, other_told, unasked_told}
+use Rattle.snmp_forward.proofs.InformAnswers.{answer_as, answered_of, keeps_told, left_report, none_told, other_told, unasked_told}
 use Rattle.snmp_forward.proofs.InformKeeping.{keeps_all, nothing_happens, still}
 use Rattle.snmp_forward.proofs.informs.Informs.accept.Goals as goal
 
@@ -70,4 +70,5 @@ returns-clause-happens c = λ before stands.
     let middle = still old _ before refl refl refl refl keeps stands in
     let answer = answered_of old before c.in-Some-place_of.place first.it g c.in-Some.answered c.take_answer.new.self (contexts_of c.scoped-scoped.result) (pdu_of c.pdu-pdu.result) stands at first.has.token_is c.in-Some.ensures front pdu in
     let clock : c.is_some-holds_clock.result ≡ holds old.manager g.engine = c.is_some-holds_clock.ensures ∙ ap is_some c.pair.ensures in
-    answer_as old c.hear.new.self c.take_answer.new.self before first.it.inform.receiver c.args.receiver g c.is_some-holds_clock.result c.hear.result first.has.to clock (c.hear.ensures.happens before g first.it middle refl at answer)
+    let left = left_report old.requests c.in-Some.answered.heard c.in-Some.answered.token c.take_answer.new.self (c.in-Some.ensures (contexts_of c.scoped-scoped.result) (pdu_of c.pdu-pdu.result) front pdu).1 in
+    answer_as old c.hear.new.self c.take_answer.new.self before first.it.inform.receiver c.args.receiver g c.is_some-holds_clock.result c.in-Some.answered.heard c.hear.result first.has.to clock left (c.hear.ensures.happens before g first.it middle refl at answer)

@@ -18,5 +18,5 @@ pub returns-else-is_memory-clause-happens : goal.returns-else-is_memory-clause-h
 returns-else-is_memory-clause-happens c = λ before stands.
     let old = c.args.self.now in (
       subst (λ (answer : Option (Result Given Refusal)). Takes old.manager (c.args.now / 1000) c.args.datagram.now answer c.take.new.self) (refusal_told c.in-Err.refused.refusal c.if-is_memory.ensures) c.in-Err.ensures.takes,
-      nothing_happens old _ before refl refl refl refl (keeps_all old.requests) stands,
+      record { list = refl; requests = refl; stands = (nothing_happens old _ before refl refl refl refl (keeps_all old.requests) stands).stands },
     )
