@@ -1,4 +1,5 @@
 mod Contexts
 mod Forwards
+mod Handling
 mod Places
 mod Refused

@@ -4,24 +4,28 @@
 -- configuration that nothing has reached; `device_said`, `limits_said`: a device and the limits that it says.
 -- `RefusesGate`: why there is none, the first that applies. `IsSaid`: what a configuration says, without its gateway.
 --
--- `TakesClient`, `TakesDevice`, `SendsNext`: what becomes of a datagram and what goes out, with what happens by it
--- and that it is lawful after what happened before (`ClientHappens`, `DeviceHappens`, `SendHappens`). `IsGateDue`:
--- when something is due by time alone. `RunsOut`: there was no memory. `Empties`: all is given back.
-use Rattle.std.specs.Prelude.{◌≡◌, ◌<◌, ◌≤◌, ◌⊎◌, ⊤, ℕ, List, [], map, Option, Some, None, option_map, Result, Ok, Err}
-use Rattle.std.specs.Prelude.{MatchOption, replicate, string_bytes}
+-- `TakesClient`, `TakesDevice`, `SendsNext`: what becomes of a datagram and what goes out, with all that the calls on
+-- a gateway promise of the one that is held (`gate`). `IsGateDue`: when something is due by time alone. `RunsOut`:
+-- there was no memory. `Empties`: all is given back.
+use Rattle.std.specs.Prelude.{◌≡◌, ◌<◌, ◌≤◌, ◌⊎◌, ◌/◌, ⊤, ℕ, List, [], map, Option, Some, None, option_map, Result}
+use Rattle.std.specs.Prelude.{Ok, Err, MatchOption, replicate, string_bytes}
 use Rattle.engine_clock.specs.Pairs.{pair_max}
 use Rattle.usm_users.specs.User.{User}
 use Rattle.usm_users.specs.declared.load.UserRow.{UserRow}
 use Rattle.vacm_core.specs.Tables.{Tables, HaveSameRows}
 use Rattle.vacm_core.specs.declared.rows.AccessRow.{AccessRow}
 use Rattle.snmp_message.specs.declared.refusal.Refusal.TheVariants.{OutOfMemory}
+use Rattle.snmp_msg.specs.Pdu.{PduParts}
 use Rattle.snmp_agent.specs.Agent.{AgentState}
-use Rattle.snmp_gate.specs.Due.{AreIdle, IsFirstDue}
+use Rattle.snmp_gate.specs.Beginning.{IsUntaken}
+use Rattle.snmp_gate.specs.Bounds.{IsBounded}
+use Rattle.snmp_gate.specs.DeviceMessages.{IsDeviceAnswer}
+use Rattle.snmp_gate.specs.Due.{IsFirstDue}
 use Rattle.snmp_gate.specs.Fits.{IsFitTold}
 use Rattle.snmp_gate.specs.Hidden.{IsHiddenTold}
 use Rattle.snmp_gate.specs.RequestTags.{IsNumberOfNone, IsTagOf}
-use Rattle.snmp_gate.specs.History.{Happening}
-use Rattle.snmp_gate.specs.Waiting.{ClientHappens, DeviceHappens, Fresh, GateStands, IsAsBefore, SendHappens, fresh}
+use Rattle.snmp_gate.specs.Runs as runs
+use Rattle.snmp_gate.specs.Waiting.{Fresh, GateStands, IsAsBefore, IsRefusedBy, Stays, fresh}
 use Rattle.snmp_gate.specs.declared.devices.Device.{Device}
 use Rattle.snmp_gate.specs.declared.limits.GateLimits.{GateLimits}
 use Rattle.snmp_gate.specs.declared.gate.Gate.{Gate}
@@ -131,6 +135,7 @@ pub record IsNewGate (agent : AgentState) (devices : List DeviceSettings) (gate 
   pub agent_is : gate.agent ≡ agent
   pub asks : map device_parts gate.devices.list.items ≡ map device_said devices
   pub stands : GateStands 0 [] gate
+  pub bounded : IsBounded gate
   pub none_wait : gate.requests.list.items ≡ []
 
 -- a gateway of the configuration, with these boots, whose agent started at this moment, in seconds
@@ -141,6 +146,7 @@ pub record IsGateOf (config : List ℕ) (boots started : ℕ) (made : GateHeld) 
   pub loads : Loads config made.settings made.devices made.receivers users tables
   pub access : IsAccessOf config made.access
   pub gate : IsNewGate (begins made.settings.engine boots started users tables).agent made.devices made.gate
+  pub limits : made.gate.limits ≡ limits_said made.settings
   pub quiet : IsQuiet made
 
 -- an agent of this engine with no user, which has these rows
@@ -156,6 +162,7 @@ pub record IsSaid (config : List ℕ) (made : GateHeld) : Type 0 where
   pub access : made.access ≡ rows.access
   pub agent : IsAgentWithoutUsers made.settings.engine rows made.gate.agent
   pub gate : IsNewGate made.gate.agent [] made.gate
+  pub limits : made.gate.limits ≡ limits_said made.settings
   pub quiet : IsQuiet made
 
 -- the text is refused as a configuration, or there was no memory
@@ -179,7 +186,7 @@ ReadsGate config (Err fault) = RefusesConfig config fault
 
 -- ---- what stays
 
--- the datagram that is to be sent, and to whom, and what else is told
+-- the datagram that is to be sent, and to whom, and what else is reported
 abbrev pub Leaves : GateHeld → Option (List ℕ) → Option (List ℕ) → GateNote → Type 0
 Leaves new to datagram note = (new.client ≡ to) × (new.message ≡ datagram) × (new.note ≡ note)
 
@@ -195,10 +202,11 @@ pub record RunsOut (old : GateHeld) (now : ℕ) (told : Result GateEvent CallFau
   pub fault : told ≡ Err (Refused OutOfMemory)
   pub quiet : IsQuiet new
   pub as_before : IsAsBefore now old.gate new.gate
+  pub stays : Stays old.gate new.gate
 
 -- ---- what comes from a client
 
--- nothing is to be sent; the number and the PDU's tag of the request for which the message waits are told
+-- nothing is to be sent; the number and the PDU's tag of the request for which the message waits are reported
 abbrev pub LeavesRequest : GateHeld → ℕ → Type 0
 LeavesRequest new number = (new.request ≡ number) × ((tag : Option ℕ) × Leaves new None None (note.Request tag)
     × MatchOption tag (IsNumberOfNone new.gate.requests.list.items number)
@@ -213,13 +221,15 @@ TellsClient (client.Joins number) told new = (told ≡ Ok event.Joins) × Leaves
 TellsClient client.NoRoom told new = (told ≡ Ok event.NoRoom) × IsQuiet new
 TellsClient client.SetOfBefore told new = (told ≡ Ok event.SetOfBefore) × IsQuiet new
 
--- The datagram is taken, and what happens by that is lawful.
+-- The datagram is taken as the gateway promises. What happens by that is lawful; a refusal has its cause and its
+-- report, and changes the agent alone; and a datagram that isn't taken leaves all as before.
 pub record TookClient (old : GateHeld) (now : ℕ) (from datagram : List ℕ) (told : Result GateEvent CallFault)
     (new : GateHeld) : Type 0 where
   pub taken : ClientTaken
   pub tells : TellsClient taken told new
-  pub happens : (since : ℕ) (before : List Happening) → since ≤ now → GateStands since before old.gate
-      → ClientHappens old.gate now before from datagram taken new.gate
+  pub takes : runs.TakesClient old.gate now from datagram taken new.gate
+  pub refused : IsRefusedBy old.gate (now / 1000) datagram new.gate taken
+  pub untaken : IsUntaken taken → IsAsBefore now old.gate new.gate
 
 abbrev pub TakesClient : GateHeld → ℕ → List ℕ → List ℕ → Result GateEvent CallFault → GateHeld → Type 0
 TakesClient old now from datagram told new = KeepsSaid old new
@@ -233,14 +243,16 @@ TellsDevice (device.Answers number fault hidden) told new = (told ≡ Ok event.A
 TellsDevice device.NotWaitedFor told new = (told ≡ Ok event.NotWaitedFor) × IsQuiet new
 TellsDevice device.Unreadable told new = (told ≡ Ok event.Unreadable) × IsQuiet new
 
+-- The datagram is taken as the gateway promises. It is unreadable only if it is no device's answer.
 pub record TookDevice (old : GateHeld) (now number : ℕ) (datagram : List ℕ) (told : Result GateEvent CallFault)
     (new : GateHeld) : Type 0 where
   pub taken : DeviceTaken
   pub tells : TellsDevice taken told new
   pub fits : IsFitTold old.gate number datagram taken
   pub hidden : IsHiddenTold old.gate number datagram taken
-  pub happens : (since : ℕ) (before : List Happening) → since ≤ now → GateStands since before old.gate
-      → DeviceHappens old.gate now before number datagram taken new.gate
+  pub takes : runs.TakesDevice old.gate now number datagram taken new.gate
+  pub unreadable : taken ≡ device.Unreadable → (community : List ℕ) (p : PduParts)
+      → ¬ IsDeviceAnswer datagram community p
 
 abbrev pub TakesDevice : GateHeld → ℕ → ℕ → List ℕ → Result GateEvent CallFault → GateHeld → Type 0
 TakesDevice old now number datagram told new = KeepsSaid old new
@@ -259,14 +271,13 @@ TellsSent (out.GivenUp number to) told new = (told ≡ Ok event.GivenUp) × (new
     × IsQuiet new
 TellsSent out.Nothing told new = (told ≡ Ok event.Nothing) × IsQuiet new
 
+-- What goes out is what the gateway promises. There is nothing only if no request has ended, and nothing is due for any
+-- by time alone.
 pub record Sends (old : GateHeld) (now : ℕ) (f : Fresh) (told : Result GateEvent CallFault) (new : GateHeld)
     : Type 0 where
   pub sent : Sent
   pub tells : TellsSent sent told new
-  -- there is nothing to do only if no request has ended, and nothing is due for any by time alone
-  pub idle : sent ≡ out.Nothing → AreIdle new.gate.limits now new.gate.requests.list.items
-  pub happens : (since : ℕ) (before : List Happening) → since ≤ now → GateStands since before old.gate
-      → SendHappens old.gate now before f sent new.gate
+  pub sends : runs.SendsNext old.gate now f sent new.gate
 
 abbrev pub SendsNext : GateHeld → ℕ → List ℕ → ℕ → Result GateEvent CallFault → GateHeld → Type 0
 SendsNext old now salt ask_id told new = KeepsSaid old new

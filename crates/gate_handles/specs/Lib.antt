@@ -1,5 +1,6 @@
 pub mod Events
 pub mod Notes
 pub mod Gates
+pub mod Calls
 pub mod Told
 pub mod Forwards

@@ -7,7 +7,7 @@ ghost use Rattle.snmpsec_gate_config.specs.Refusals.{Loads, Refuses, SaysSound};
 ghost use Rattle.snmpsec_gate_config.specs.Rows.{HaveOwnContexts};
 ghost use Rattle.snmp_handles.specs.declared.fault.CallFault.TheVariants.{Refused};
 ghost use Rattle.gate_handles.specs.Gates.{RefusesConfig, IsAccessOf, IsNewGate, IsEmptyAgent};
-ghost use Rattle.gate_handles.specs.Gates.{IsAgentWithoutUsers};
+ghost use Rattle.gate_handles.specs.Gates.{IsAgentWithoutUsers, limits_said};
 
 use crate::handle::NO_MEMORY;
 use crate::making::{devices_of, limits_of};
@@ -77,7 +77,8 @@ pub(crate) fn gate_of(
     devices: &[DeviceSettings],
 ) -> Result<Gate, AllocError>
     requires { HaveOwnContexts devices.now }
-    ensures { IfOk result (IsNewGate agent devices.now) }
+    ensures new { IfOk result (IsNewGate agent devices.now) }
+    ensures limits { IfOk result (λ gate. gate.limits ≡ limits_said said.now) }
 {
     let list = devices_of(alloc, devices)?;
     let Ok(devices) = Devices::new(list) else {

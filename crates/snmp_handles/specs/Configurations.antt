@@ -1,4 +1,4 @@
--- Why a configuration is refused, as callers in other languages are told.
+-- Why a configuration is refused, as it is reported to callers in other languages.
 --
 -- `TellsConfig`, `RefusesConfig`, `IsTold`: why a text is refused as a configuration, by `numbers_of` the
 -- fault and in two lines.
@@ -85,7 +85,7 @@ RefusesConfig config numbers numbers_new text =
     (fault : ConfigFault) × RefusesText config fault × (numbers_new ≡ numbers_of fault ++ drop 4 numbers)
     × IsTold fault text
 
--- Whether a text is a configuration, and what is reported where it is none.
+-- Whether a text is a configuration, and what is reported where it isn't one.
 abbrev pub TellsConfig : {V : Type 0} → List ℕ → List ℕ → List ℕ → List ℕ → List ℕ → ℕ → ℕ → Result V CallFault → Type 0
 TellsConfig config numbers numbers_new out out_new written written_new (Ok done) =
     ((users : List UserRow) × (rows : Tables) × SaysSound config users rows) × (4 ≤ length numbers)

@@ -155,7 +155,7 @@ impl AgentHandle {
     /// moment `started`.
     ///
     /// The errors are BadArgument, where the engine ID hasn't 5 to 32 octets, or all of them are 0 or all are
-    /// 255 (SnmpEngineID, RFC 3411, section 5), or boots are above 2147483647; then BadConfiguration, or want
+    /// 255 (SnmpEngineID, RFC 3411, section 5), or boots are above 2147483647; then BadConfiguration, or out
     /// of memory.
     pub fn of(
         alloc: Global,
@@ -184,7 +184,7 @@ impl AgentHandle {
         }
     }
 
-    /// Gives back the memory of all that is held: the users, the tables, and what is kept. The error is want
+    /// Gives back the memory of all that is held: the users, the tables, and what is kept. The error is out
     /// of memory, and changes nothing.
     pub fn clear(&mut self) -> Result<(), CallFault>
         ensures { Clears self.old result self.new }

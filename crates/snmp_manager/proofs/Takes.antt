@@ -154,7 +154,7 @@ learns_held held w v exact holds_it auth = holds_it v.fields.engine (pair_in v) 
 
 -- ---- outcomes
 
--- a refusal is told as it is
+-- a refusal is reported as it is
 pub told : (old new : Held) (now : ℕ) (w : List ℕ) (fault : RefusedAt) (o : Option Refusal) → in_table fault.refusal ≡ o → o ≢ None → Takes old now w (refused o) new → TakesOne old now w (Refused fault) new
 told old new now w fault None is some takes = absurd (some refl)
 told old new now w fault (Some n) is some takes = (Err n, is, takes)

@@ -52,7 +52,7 @@ refusal_name TooLarge = codes "TooLarge"
 refusal_name UnknownModel = codes "UnknownModel"
 refusal_name InvalidFlags = codes "InvalidFlags"
 
--- what people are told
+-- what is reported to people
 abbrev pub refusal_words : Refusal → List ℕ
 refusal_words NotMessage = codes "not a message"
 refusal_words BadVersion = codes "not version 3"

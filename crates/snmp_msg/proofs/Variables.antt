@@ -202,7 +202,7 @@ variables_of-again (v ∷ vs) octets (text, rest, is, parts, others) =
 pub one_list : (vs ws : List Variable) (octets : List ℕ) → AreBindings vs octets → AreBindings ws octets → vs ≡ ws
 one_list vs ws octets h k = sym (variables_of-again vs octets h).0 ∙ (variables_of-again ws octets k).0
 
--- what is left where only that is told
+-- what is left where only that is reported
 pub none_skipped : (o : Option (Variable × List ℕ)) → None ≡ option_map (λ (x : Variable × List ℕ). x.1) o → o ≡ None
 none_skipped None e = refl
 none_skipped (Some x) e = absurd cc

@@ -1,4 +1,4 @@
--- Where a walk comes to.
+-- How far a walk gets.
 use Rattle.std.specs.Prelude.{List, ℕ, Contains}
 use Rattle.std.proofs.Common.{refl, inl, inr}
 use Rattle.snmp_msg.specs.Variables.{Variable}

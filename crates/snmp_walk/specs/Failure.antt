@@ -20,7 +20,7 @@ pub record IsAskedAt (columns : List Column) (index : ℤ) (number : ℕ) : Type
   pub asked : HoldsAt (λ (c : Column). IsAsked c.progress) columns number
   pub place : index ≡ pos (length (asks_of (take number columns)) + 1)
 
--- tooBig and noSuchName are told as they are, noSuchName only of a binding that was asked; any other error is genErr
+-- tooBig and noSuchName are reported as they are, noSuchName only of an asked binding; any other error is genErr
 abbrev pub IsFailureStatus : ℤ → Option ℕ → FailureStatus → Type 0
 IsFailureStatus status column TooBig = status ≡ TOO_BIG
 IsFailureStatus status column NoSuchName = (status ≡ NO_SUCH_NAME) × (column ≢ None)

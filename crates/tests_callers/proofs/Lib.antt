@@ -4,4 +4,5 @@ mod Twice
 mod Begun
 mod Twins
 mod Seen
+mod Served
 mod Notified

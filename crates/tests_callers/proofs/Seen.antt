@@ -1,4 +1,4 @@
--- What is told of a request has nothing hidden, and what is asked neither.
+-- What is reported of a request has nothing hidden, and what is asked neither.
 use Rattle.std.specs.Prelude.{◌≡◌, ◌⊎◌, ◌<◌, ℕ, pos, List, All, Contains, Option, slice_index_or}
 use Rattle.std.specs.Global.{Vec}
 use Rattle.std.proofs.Common.{inl, inr, sym, subst, arith}

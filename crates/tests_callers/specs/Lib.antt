@@ -2,3 +2,4 @@ pub mod Begun
 pub mod Codes
 pub mod Hidden
 pub mod Notified
+pub mod Served

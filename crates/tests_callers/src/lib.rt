@@ -7,6 +7,7 @@
 
 mod agents;
 mod gateways;
+mod instances;
 mod keys;
 mod managers;
 mod notifications;
@@ -17,10 +18,11 @@ mod sealing;
 mod worlds;
 
 pub use agents::same_answer;
-pub use gateways::{Out, send};
+pub use gateways::{Come, Out, send, serve, serve_one};
+pub use instances::{no_gateway_begins_by_itself, no_notification_is_made_up};
 pub use keys::two_keys_one_code;
 pub use managers::{take_all_the_same, take_one, take_wrong_digest};
-pub use notifications::{Notice, notify};
+pub use notifications::{Coming, Notice, forward, forward_one, notify};
 pub use replays::accept_twice;
 pub use requests::ask;
 pub use responses::answer;

@@ -4,12 +4,13 @@ use Rattle.gate_handles.proofs.handle.GateHandle.clear.Goals as goal
 
 pub returns : goal.returns
 returns c =
-    let made = c.in-Ok.ensures in record {
+    let made = c.in-Ok.ensures.new in record {
       no_users = subst IsEmptyAgent (sym made.agent_is) c.in_ok-agent.ensures.agent;
       gate = record {
         agent_is = refl;
         asks = rw (c.deref.ensures.value, c.new-devices.ensures.items) at made.asks;
         stands = made.stands;
+        bounded = made.bounded;
         none_wait = made.none_wait;
       };
       path = c.empty_settings-settings.ensures.path;

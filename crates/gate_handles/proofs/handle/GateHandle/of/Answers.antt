@@ -8,6 +8,7 @@ returns c = record {
   tables = c.in_ok-said.said.access;
   loads = c.in_ok-said.ensures.loads;
   access = c.in_ok-access.ensures.access;
-  gate = rw (c.new-agent.ensures, c.deref.ensures.value, c.copy.ensures) at c.in-Ok.ensures;
+  gate = rw (c.new-agent.ensures, c.deref.ensures.value, c.copy.ensures) at c.in-Ok.ensures.new;
+  limits = c.in-Ok.ensures.limits;
   quiet = record { message = refl; client = refl; note = refl };
 }

@@ -6,7 +6,7 @@ use Rattle.gate_handles.proofs.handle.GateHandle.read.Goals as goal
 
 pub returns : goal.returns
 returns c =
-    let made = c.in-Ok.ensures in
+    let made = c.in-Ok.ensures.new in
     let said = c.in_ok-said.said in record {
       users = said.rows.users.items;
       rows = tables_of said.rows.access;
@@ -17,7 +17,9 @@ returns c =
         agent_is = refl;
         asks = rw (c.deref.ensures.value, c.new-none.ensures.items) at made.asks;
         stands = made.stands;
+        bounded = made.bounded;
         none_wait = made.none_wait;
       };
+      limits = c.in-Ok.ensures.limits;
       quiet = record { message = refl; client = refl; note = refl };
     }
