@@ -2,9 +2,9 @@
 # Proves and builds the library, where it isn't built from these sources, and what stands in this folder, into lib/out:
 # build.sh [CFLAGS..]
 #
-# OUT is another folder than lib/out, CC another compiler than cc. With NO_LIBRARY the archive is taken as it lies there.
-# With OVER_CI it is built over the libraries that rt ci has left. The sources are those that CMakeLists.txt lists.
-# CMakeLists.txt builds what is installed; this wants a C compiler alone.
+# OUT is another folder than lib/out, CC another compiler than cc. With NO_LIBRARY the archive is taken as it lies
+# there. With OVER_CI it is built over the libraries that rt ci has left. The sources are those that CMakeLists.txt
+# lists. CMakeLists.txt builds what is installed; this wants a C compiler alone.
 set -e
 here=$(cd "$(dirname "$0")" && pwd)
 out=${OUT:-$here/out}
@@ -55,7 +55,8 @@ for test in calls manager_calls gate_calls forward_calls bindings keys exchange 
 done
 parts=
 for part in community lines sockets waiting; do parts="$parts $out/gate_$part.o"; done
-$cc -I"$here/gate" "$@" -Wl,--wrap=malloc,--wrap=realloc "$here/tests/gate_parts.c" $parts $checks $library -o "$out/gate_parts"
+$cc -I"$here/gate" "$@" -Wl,--wrap=malloc,--wrap=realloc "$here/tests/gate_parts.c" $parts $checks $library \
+    -o "$out/gate_parts"
 $cc "$@" "$here/tests/fuzz.c" $library -o "$out/fuzz_inputs"
 $cc "$@" "$here/tests/hold.c" "$out/words_of.o" $library -o "$out/hold"
 $cc "$@" -pthread "$here/tests/threads.c" $library -o "$out/threads"

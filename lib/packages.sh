@@ -1,21 +1,24 @@
 #!/bin/bash
-# Builds the Debian packages libsnmpsec0, libsnmpsec-dev, python3-snmpsec, snmpsec and snmpsec-gate, and a wheel with the library in it, into a folder:
-# packages.sh OUT
+# Builds the Debian packages libsnmpsec0, libsnmpsec-dev, python3-snmpsec, snmpsec and snmpsec-gate, and a wheel with
+# the library in it, into a folder: packages.sh OUT
 #
 # Two builds of the same sources are the same, octet for octet. Each package has a bill of materials (sbom.py).
-# It proves and builds the library and the program first, where they aren't built from these sources; with NO_LIBRARY they are taken as they
-# lie there. It wants debhelper, dh-python, pybuild-plugin-pyproject, python3-hatchling and cmake. OUT lies outside of the repository, since
-# the packages' tree has symbolic links.
+# It proves and builds the library and the program first, where they aren't built from these sources; with NO_LIBRARY
+# they are taken as they lie there. It wants debhelper, dh-python, pybuild-plugin-pyproject, python3-hatchling and
+# cmake. OUT lies outside of the repository, since the packages' tree has symbolic links.
 set -e
 here=$(cd "$(dirname "$0")" && pwd)
 repository=$(cd "$here/.." && pwd)
 [ -n "$1" ] || { sed -n '2,3p' "$0"; exit 2; }
 mkdir -p "$1"
 out=$(cd "$1" && pwd)
-[ -n "$NO_LIBRARY" ] || (cd "$repository" && tools/build snmp_c snmpsec snmpsec_import)
-export SNMPSEC_ARCHIVE=$repository/crates/snmp_c/out/libsnmp_c.a SNMPSEC_PROGRAM=${SNMPSEC_PROGRAM:-$repository/crates/snmpsec/out/snmpsec}
+[ -n "$NO_LIBRARY" ] || (cd "$repository" && tools/build snmp_c snmpsec snmpsec_import snmpsec_diagnose)
+export SNMPSEC_ARCHIVE=$repository/crates/snmp_c/out/libsnmp_c.a \
+    SNMPSEC_PROGRAM=${SNMPSEC_PROGRAM:-$repository/crates/snmpsec/out/snmpsec}
 export SNMPSEC_IMPORT_PROGRAM=${SNMPSEC_IMPORT_PROGRAM:-$repository/crates/snmpsec_import/out/snmpsec_import}
-(cd "$repository" && tools/check-proved "$SNMPSEC_ARCHIVE" "$SNMPSEC_PROGRAM" "$SNMPSEC_IMPORT_PROGRAM")
+export SNMPSEC_DIAGNOSE_PROGRAM=${SNMPSEC_DIAGNOSE_PROGRAM:-$repository/crates/snmpsec_diagnose/out/snmpsec_diagnose}
+(cd "$repository" && tools/check-proved "$SNMPSEC_ARCHIVE" "$SNMPSEC_PROGRAM" "$SNMPSEC_IMPORT_PROGRAM" \
+    "$SNMPSEC_DIAGNOSE_PROGRAM")
 # for the bills of materials
 export SNMPSEC_CRATES=$repository/crates.txt SNMPSEC_KIT
 SNMPSEC_KIT=$(rt version 2> /dev/null || echo NOASSERTION)
@@ -34,7 +37,8 @@ cp "$repository/docs/snmpsec.1" "$tree/docs"
 cp "$repository/tools/snmpsec.bash" "$repository/tools/_snmpsec" "$tree/tools"
 export SOURCE_DATE_EPOCH
 SOURCE_DATE_EPOCH=$(dpkg-parsechangelog -l "$tree/debian/changelog" -STimestamp)
-(cd "$out" && tar c --exclude=debian --sort=name --mtime="@$SOURCE_DATE_EPOCH" --owner=0 --group=0 --numeric-owner "snmpsec-$version") |
+(cd "$out" && tar c --exclude=debian --sort=name --mtime="@$SOURCE_DATE_EPOCH" --owner=0 --group=0 --numeric-owner \
+    "snmpsec-$version") |
     gzip -n > "$out/snmpsec_$version.orig.tar.gz"
 (cd "$tree" && DEB_BUILD_OPTIONS=noautodbgsym dpkg-buildpackage -us -uc -b)
 
@@ -49,6 +53,7 @@ cp "$tree"/lib/python/src/snmpsec/* "$parts/snmpsec"
 cp "$shared" "$parts/snmpsec/libsnmpsec.so.0"
 python3 "$here/sbom.py" snmpsec-wheel "$version" "$parts" "$out/snmpsec.spdx.json" snmp_c
 cd "$tree/lib/python"
-SNMPSEC_WHEEL_LIBRARY=$shared SNMPSEC_WHEEL_BILL=$out/snmpsec.spdx.json SNMPSEC_WHEEL_PLATFORM=manylinux_${libc/./_}_$(uname -m) \
+SNMPSEC_WHEEL_LIBRARY=$shared SNMPSEC_WHEEL_BILL=$out/snmpsec.spdx.json \
+    SNMPSEC_WHEEL_PLATFORM=manylinux_${libc/./_}_$(uname -m) \
     python3 -c 'import hatchling.build, sys; print(hatchling.build.build_wheel(sys.argv[1]))' "$out"
 chmod 644 "$out"/snmpsec-"$version"-*.whl

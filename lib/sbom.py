@@ -3,9 +3,10 @@
 
 usage: sbom.py PACKAGE VERSION FOLDER OUT [PROVED-CRATE..]
 
-The files are those of FOLDER, with their sums. The proved crates are those that an archive or a program in it was linked of; what is below them in
-crates.txt and in the kit is listed too. SNMPSEC_CRATES names crates.txt, and SNMPSEC_KIT the kit, as `rt version` does. The time is
-SOURCE_DATE_EPOCH, so that the same files give the same bill. No licence is named yet. Not proved."""
+The files are those of FOLDER, with their sums. The proved crates are those that an archive or a program in it was
+linked of; what is below them in crates.txt and in the kit is listed too. SNMPSEC_CRATES names crates.txt, and
+SNMPSEC_KIT the kit, as `rt version` does. The time is SOURCE_DATE_EPOCH, so that the same files give the same bill. No
+licence is named yet. Not proved."""
 import datetime
 import hashlib
 import json
@@ -33,8 +34,18 @@ def crates_below(names):
 
 
 def part(name, version, purpose, comment):
-    return {"SPDXID": f"SPDXRef-{name.replace('_', '-')}", "name": name, "versionInfo": version, "downloadLocation": NOTHING, "filesAnalyzed": False,
-            "licenseConcluded": NOTHING, "licenseDeclared": NOTHING, "copyrightText": NOTHING, "primaryPackagePurpose": purpose, "comment": comment}
+    return {
+        "SPDXID": f"SPDXRef-{name.replace('_', '-')}",
+        "name": name,
+        "versionInfo": version,
+        "downloadLocation": NOTHING,
+        "filesAnalyzed": False,
+        "licenseConcluded": NOTHING,
+        "licenseDeclared": NOTHING,
+        "copyrightText": NOTHING,
+        "primaryPackagePurpose": purpose,
+        "comment": comment,
+    }
 
 
 def sums(path):
@@ -47,30 +58,60 @@ def files_of(folder, out):
         if path.is_file() and not path.is_symlink() and path != out and "DEBIAN" not in path.relative_to(folder).parts:
             sha1, sha256 = sums(path)
             checksums = [{"algorithm": "SHA1", "checksumValue": sha1}, {"algorithm": "SHA256", "checksumValue": sha256}]
-            yield {"fileName": f"./{path.relative_to(folder)}", "licenseConcluded": NOTHING, "copyrightText": NOTHING, "checksums": checksums}
+            yield {
+                "fileName": f"./{path.relative_to(folder)}",
+                "licenseConcluded": NOTHING,
+                "copyrightText": NOTHING,
+                "checksums": checksums,
+            }
 
 
 def bill(package, version, folder, out, proved):
     files = list(files_of(folder, out))
     for number, file in enumerate(files):
         file["SPDXID"] = f"SPDXRef-File-{number + 1}"
-    of_files = hashlib.sha1("".join(sorted(file["checksums"][0]["checksumValue"] for file in files)).encode()).hexdigest()
-    whole = part(package, version, "INSTALL", "SNMPv3 user security and view access. The repository names no licence yet.")
+    of_files = hashlib.sha1(
+        "".join(sorted(file["checksums"][0]["checksumValue"] for file in files)).encode()
+    ).hexdigest()
+    whole = part(
+        package, version, "INSTALL", "SNMPv3 user security and view access. The repository names no licence yet."
+    )
     whole |= {"filesAnalyzed": True, "packageVerificationCode": {"packageVerificationCodeValue": of_files},
               "hasFiles": [file["SPDXID"] for file in files]}
     own, of_kit = crates_below(proved)
     kit = os.environ.get("SNMPSEC_KIT", NOTHING)
-    parts = [part(f"crate-{name}", version, "SOURCE", "a crate of this repository, proved and linked statically") for name in own]
-    parts += [part(f"kit-crate-{name}", kit, "LIBRARY", "a crate of the Rattle kit, linked statically") for name in of_kit]
+    parts = [
+        part(f"crate-{name}", version, "SOURCE", "a crate of this repository, proved and linked statically")
+        for name in own
+    ]
+    parts += [
+        part(f"kit-crate-{name}", kit, "LIBRARY", "a crate of the Rattle kit, linked statically") for name in of_kit
+    ]
     tool = [part("rattle-kit", kit, "APPLICATION", "the prover and the compiler")] if proved else []
-    when = datetime.datetime.fromtimestamp(int(os.environ.get("SOURCE_DATE_EPOCH", "0")), datetime.timezone.utc).strftime("%Y-%m-%dT%H:%M:%SZ")
+    when = datetime.datetime.fromtimestamp(
+        int(os.environ.get("SOURCE_DATE_EPOCH", "0")), datetime.timezone.utc
+    ).strftime("%Y-%m-%dT%H:%M:%SZ")
     of = whole["SPDXID"]
-    relations = [("SPDXRef-DOCUMENT", "DESCRIBES", of), *((of, "CONTAINS", file["SPDXID"]) for file in files),
-                 *((of, "STATIC_LINK", it["SPDXID"]) for it in parts), *((it["SPDXID"], "BUILD_TOOL_OF", of) for it in tool)]
-    return {"spdxVersion": "SPDX-2.3", "dataLicense": "CC0-1.0", "SPDXID": "SPDXRef-DOCUMENT", "name": f"{package}-{version}",
-            "documentNamespace": f"https://example.org/spdx/{package}-{version}-{of_files}",
-            "creationInfo": {"created": when, "creators": ["Tool: snmpsec-sbom.py"]}, "packages": [whole, *parts, *tool], "files": files,
-            "relationships": [{"spdxElementId": one, "relationshipType": kind, "relatedSpdxElement": other} for one, kind, other in relations]}
+    relations = [
+        ("SPDXRef-DOCUMENT", "DESCRIBES", of),
+        *((of, "CONTAINS", file["SPDXID"]) for file in files),
+        *((of, "STATIC_LINK", it["SPDXID"]) for it in parts),
+        *((it["SPDXID"], "BUILD_TOOL_OF", of) for it in tool),
+    ]
+    return {
+        "spdxVersion": "SPDX-2.3",
+        "dataLicense": "CC0-1.0",
+        "SPDXID": "SPDXRef-DOCUMENT",
+        "name": f"{package}-{version}",
+        "documentNamespace": f"https://example.org/spdx/{package}-{version}-{of_files}",
+        "creationInfo": {"created": when, "creators": ["Tool: snmpsec-sbom.py"]},
+        "packages": [whole, *parts, *tool],
+        "files": files,
+        "relationships": [
+            {"spdxElementId": one, "relationshipType": kind, "relatedSpdxElement": other}
+            for one, kind, other in relations
+        ],
+    }
 
 
 def main():

@@ -1,14 +1,16 @@
 #!/bin/bash
-# Runs the library from C, Rust and Python, against net-snmp's tools, and installed, on 127.0.0.1 alone: test.sh [PORT [PART..]]
+# Runs the library from C, Rust and Python, against net-snmp's tools, and installed, on 127.0.0.1 alone: test.sh [PORT
+# [PART..]]
 #
-# It wants a C compiler; README.md has the line that installs all else that it can use. What isn't installed is told by a line that begins
-# with `skipped:` and left out. The C is built twice, the second time with sanitizers, and those programs are run where they can be built. It
-# prints what differs from what is expected, and at the end how many checks passed; the status is 1 if any failed. Each part is a script in
-# tests/. Where none is named all are run in six groups, as many side by side as there are processors, each with 25 ports of its own from PORT
-# (16161) on; what a group printed is printed when it has ended. Parts that are named run one after another, over what was built before.
+# It wants a C compiler; README.md has the line that installs all else that it can use. What isn't installed is reported
+# by a line that begins with `skipped:` and left out. The C is built twice, the second time with sanitizers, and those
+# programs are run where they can be built. It prints what differs from what is expected, and at the end how many checks
+# passed; the status is 1 if any failed. Each part is a script in tests/. Where none is named all are run in six groups,
+# as many side by side as there are processors, each with 25 ports of its own from PORT (16161) on; what a group printed
+# is printed when it has ended. Parts that are named run one after another, over what was built before.
 #
-# With NO_LIBRARY the archive is taken as it lies there. SNMPSEC_ARCHIVE is another archive, and SNMPSEC_PROGRAM another program, as
-# tools/unproved compiles them; nothing is installed or packaged of an archive that isn't proved.
+# With NO_LIBRARY the archive is taken as it lies there. SNMPSEC_ARCHIVE is another archive, and SNMPSEC_PROGRAM another
+# program, as tools/unproved compiles them; nothing is installed or packaged of an archive that isn't proved.
 here=$(cd "$(dirname "$0")" && pwd)
 export OUT=${OUT:-$here/out}
 work=$(mktemp -d)
@@ -25,12 +27,22 @@ trap 'for p in "${pids[@]}"; do kill "$p" 2>/dev/null; done; rm -rf "$work"' EXI
 if ! command -v cc > /dev/null; then echo "skipped: no C compiler"; exit 0; fi
 
 check() { # NAME EXPECTED FOUND
-    if [ "$2" = "$3" ]; then passed=$((passed + 1)); else failed=$((failed + 1)); printf 'FAILED %s\n  expected: %s\n  found:    %s\n' "$1" "$2" "$3"; fi
+    if [ "$2" = "$3" ]; then
+        passed=$((passed + 1))
+    else
+        failed=$((failed + 1))
+        printf 'FAILED %s\n  expected: %s\n  found:    %s\n' "$1" "$2" "$3"
+    fi
 }
 
 # has NAME EXPECTED FOUND: the text is somewhere in it
 has() {
-    if [[ "$3" == *"$2"* ]]; then passed=$((passed + 1)); else failed=$((failed + 1)); printf 'FAILED %s\n  expected: %s\n  found:    %s\n' "$1" "$2" "$3"; fi
+    if [[ "$3" == *"$2"* ]]; then
+        passed=$((passed + 1))
+    else
+        failed=$((failed + 1))
+        printf 'FAILED %s\n  expected: %s\n  found:    %s\n' "$1" "$2" "$3"
+    fi
 }
 
 # listed NAME: the sources of this name in CMakeLists.txt
@@ -61,7 +73,8 @@ in_file() {
 }
 
 begin_agent() { # ARGUMENTS.. behind those that are always the same
-    "$programs/agent" "$here/examples/agent.toml" "$here/examples/table.txt" "$engine" "$work/boots" "$port" "$@" > "$work/agent.out" 2> "$work/agent.err" &
+    "$programs/agent" "$here/examples/agent.toml" "$here/examples/table.txt" "$engine" "$work/boots" "$port" "$@" \
+        > "$work/agent.out" 2> "$work/agent.err" &
     agent=$!
     pids+=("$agent")
     bound "$port"
@@ -85,21 +98,23 @@ ask() {
     shift
     rm -rf "$SNMP_PERSISTENT_DIR"
     mkdir -p "$SNMP_PERSISTENT_DIR"
-    "$tool" -v3 -r 0 -t 2 -On "$@" 2>&1 | grep -v '^Created directory'
+    "$tool" -v3 -r 0 -t 5 -On "$@" 2>&1 | grep -v '^Created directory'
 }
 
 export SNMPSEC_LIBRARY=$OUT/libsnmpsec.so.0
 
-# ours COMMAND ARGUMENTS..: a command of the Python package; the password of privacy is in $privacy, and another interpreter in $python
+# ours COMMAND ARGUMENTS..: a command of the Python package; the password of privacy is in $privacy, and another
+# interpreter in $python
 ours() {
     local program="import sys; from snmpsec import commands; sys.argv[0] = 'snmpsec'; sys.exit(commands.$1())"
     shift
-    SNMPSEC_AUTH_PASSWORD=${password:-maplesyrup} SNMPSEC_PRIV_PASSWORD=${privacy:-syrupmaple} PYTHONPATH=$here/python/src "${python:-python3}" -c "$program" "$@" 2>&1
+    SNMPSEC_AUTH_PASSWORD=${password:-maplesyrup} SNMPSEC_PRIV_PASSWORD=${privacy:-syrupmaple} \
+        PYTHONPATH=$here/python/src "${python:-python3}" -c "$program" "$@" 2>&1
 }
 
 # Those of a line need what those before them have started or defined.
-groups="calls agent dispatch made_tables
-gate gate_lines gate_files
+groups="calls agent budget dispatch made_tables
+gate gate_lines gate_files gate_busy
 gate_traps gate_informs gate_clients
 gate_memory memory secrets processors packages
 poll traps client wrappers
@@ -109,7 +124,8 @@ of_proved=" gate_memory memory secrets processors packages flood install "
 
 build() {
     sh "$here/build.sh" || return 1
-    NO_LIBRARY=1 OUT=$sanitized sh "$here/build.sh" -g -fsanitize=address,undefined -fno-sanitize-recover=all > "$work/sanitized.log" 2>&1 && return
+    NO_LIBRARY=1 OUT=$sanitized sh "$here/build.sh" -g -fsanitize=address,undefined -fno-sanitize-recover=all \
+        > "$work/sanitized.log" 2>&1 && return
     rm -rf "$sanitized"
     echo "skipped: the C compiler has no sanitizers"
 }
@@ -149,7 +165,10 @@ else
     [ -d "$programs" ] || programs=$OUT
     for part in "${@:2}"; do
         since=$SECONDS
-        if [ "$is_proved" = no ] && [[ "$of_proved" == *" $part "* ]]; then echo "skipped: $part: the archive isn't proved, which ./prove snmp_c does"; continue; fi
+        if [ "$is_proved" = no ] && [[ "$of_proved" == *" $part "* ]]; then
+            echo "skipped: $part: the archive isn't proved, which ./prove snmp_c does"
+            continue
+        fi
         . "$here/tests/$part.sh"
         echo "$part: $((SECONDS - since)) s"
     done

@@ -1,9 +1,10 @@
 /* A small agent over UDP: agent [OPTION..] CONFIG TABLE ENGINE-ID BOOTS-FILE PORT [TRAP-PORT USER LEVEL]
  *
- * It answers GetRequest, GetNextRequest, GetBulkRequest and SetRequest on 127.0.0.1 from a table in a file, as the configuration
- * allows, and sends a coldStart trap to a port where one is given. The library decides who sent a message, whether it is fresh, whether
- * anything answers it, who may see what and how long the answer may be. Here stand the socket, the clock, the boots, the salts and the
- * values. It ends at SIGTERM or SIGINT, and prints what it answered and the counters. Not proved. */
+ * It answers GetRequest, GetNextRequest, GetBulkRequest and SetRequest on 127.0.0.1 from a table in a file, as the
+ * configuration allows, and sends a coldStart trap to a port where one is given. The library decides who sent a
+ * message, whether it is fresh, whether anything answers it, who may see what and how long the answer may be. Here
+ * stand the socket, the clock, the boots, the salts and the values. It ends at SIGTERM or SIGINT, and prints what it
+ * answered and the counters. Not proved. */
 #define _GNU_SOURCE
 #include "snmpsec.h"
 #include "answer.h"
@@ -26,8 +27,9 @@
 
 /* the most octets of a configuration */
 #define MOST_CONFIG (16u << 20)
-/* of the agent's time, how much is spent on messages without authentication where no option says it */
-enum { SHARE_OF_UNAUTHENTICATED = 20 };
+/* of the agent's time in percent, how much is spent on messages without authentication where no option says it, and on
+ * discoveries, each of which costs the same */
+enum { SHARE_OF_UNAUTHENTICATED = 20, SHARE_OF_DISCOVERIES = 5 };
 
 static volatile sig_atomic_t ended;
 static struct table table;
@@ -47,12 +49,14 @@ static void send_message(int socket, const struct sockaddr_in *to) {
     static int told;
     if (snmpsec_agent_message(agent, message, sizeof message, &len)) return;
     int fault = sendto(socket, message, len, 0, (const struct sockaddr *)to, sizeof *to) < 0 ? errno : 0;
-    if (fault && fault != told) fprintf(stderr, "agent: send: %s\n", strerror(fault)); /* a sender can't have it told for each datagram */
+    /* a sender can't have it told for each datagram */
+    if (fault && fault != told) fprintf(stderr, "agent: send: %s\n", strerror(fault));
     told = fault;
 }
 
 /* A coldStart trap (RFC 3418): sysUpTime.0, and snmpTrapOID.0 with coldStart. */
-static void send_trap(int socket, uint16_t port, const char *user, snmpsec_level level, const uint8_t *engine, size_t engine_len) {
+static void send_trap(int socket, uint16_t port, const char *user, snmpsec_level level, const uint8_t *engine,
+                      size_t engine_len) {
     static const uint32_t up_time[] = {1, 3, 6, 1, 2, 1, 1, 3, 0}, trap_oid[] = {1, 3, 6, 1, 6, 3, 1, 1, 4, 1, 0};
     static const uint8_t ticks[] = {100}, cold_start[] = {0x2b, 6, 1, 6, 3, 1, 1, 5, 1};
     struct sockaddr_in to = {.sin_family = AF_INET, .sin_port = htons(port), .sin_addr = {htonl(INADDR_LOOPBACK)}};
@@ -65,9 +69,11 @@ static void send_trap(int socket, uint16_t port, const char *user, snmpsec_level
     }
     if (snmpsec_binding_write(up_time, 9, 0x43, ticks, sizeof ticks, list, sizeof list, &written)) return;
     list_len = written;
-    if (snmpsec_binding_write(trap_oid, 11, 0x06, cold_start, sizeof cold_start, list + list_len, sizeof list - list_len, &written)) return;
+    if (snmpsec_binding_write(trap_oid, 11, 0x06, cold_start, sizeof cold_start, list + list_len,
+                              sizeof list - list_len, &written)) return;
     list_len += written;
-    snmpsec_notice notice = {.message_id = 1, .request_id = 1, .level = level, .user = whom, .context_engine = {engine, engine_len},
+    snmpsec_notice notice = {.message_id = 1, .request_id = 1, .level = level, .user = whom,
+                             .context_engine = {engine, engine_len},
                              .context_name = no_context, .list = {list, list_len}, .salt = new_salt()};
     int answer = snmpsec_agent_notify(agent, now_in_seconds(), &notice);
     if (answer) fprintf(stderr, "agent: trap: %s\n", snmpsec_strerror(answer)); else send_message(socket, &to);
@@ -77,7 +83,7 @@ static void send_trap(int socket, uint16_t port, const char *user, snmpsec_level
 struct service {
     int socket;
     enum answer_size size;
-    struct budget budget;
+    struct budget budget, discoveries;
     long told[19], over_budget;
 };
 
@@ -87,18 +93,23 @@ static bool is_authenticated(int answer) {
     return answer == SNMPSEC_OK && !snmpsec_agent_info(agent, &info) && info.level != SNMPSEC_NO_AUTH_NO_PRIV;
 }
 
-/* Takes a datagram and answers it. What isn't authenticated, reports too, is answered as long as its budget lasts, so that whoever sends
- * much of it takes that share of the agent's time and not all. Over the budget a message that doesn't even say that it is authenticated isn't read. */
-static void answer_datagram(struct service *service, const struct sockaddr_in *from, const uint8_t *datagram, size_t len) {
-    uint64_t now = now_in_seconds(), begun = now_in_nanoseconds();
-    bool has_budget = budget_has(&service->budget, begun);
+/* Takes a datagram and answers it. What isn't authenticated, reports too, is answered as long as its budget lasts, so
+ * that whoever sends much of it takes that share of the agent's time and not all. Over the budget a message that
+ * doesn't even say that it is authenticated isn't read. Discoveries have a budget of their own, so that requests
+ * without authentication keep no manager from its first message. */
+static void answer_datagram(struct service *service, const struct sockaddr_in *from, const uint8_t *datagram,
+                            size_t len) {
+    struct budget *budget = says_discovery(datagram, len) ? &service->discoveries : &service->budget;
+    uint64_t now = now_in_seconds(), begun = work_in_nanoseconds();
+    bool has_budget = budget_has(budget, now_in_nanoseconds());
     if (!has_budget && !says_authenticated(datagram, len)) { service->over_budget++; return; }
     int answer = snmpsec_agent_take(agent, now, datagram, len);
     if (answer >= 0 && answer <= 18) service->told[answer]++;
     bool is_free = is_authenticated(answer);
     if (!is_free && !has_budget) { service->over_budget++; return; }
-    if (answer != SNMPSEC_OK || !answer_kept(agent, &table, now, len, service->size)) send_message(service->socket, from);
-    if (!is_free) budget_spend(&service->budget, now_in_nanoseconds() - begun);
+    if (answer != SNMPSEC_OK || !answer_kept(agent, &table, now, len, service->size))
+        send_message(service->socket, from);
+    if (!is_free) budget_spend(budget, work_in_nanoseconds() - begun);
 }
 
 static int serve(struct service *service) {
@@ -108,7 +119,8 @@ static int serve(struct service *service) {
         socklen_t from_len = sizeof from;
         ssize_t len = recvfrom(service->socket, datagram, sizeof datagram, 0, (struct sockaddr *)&from, &from_len);
         if (len < 0) { if (errno == EINTR) continue; perror("agent: receive"); return 2; }
-        if (from.sin_port) answer_datagram(service, &from, datagram, (size_t)len); /* nothing can be sent to port 0 (RFC 768) */
+        /* nothing can be sent to port 0 (RFC 768) */
+        if (from.sin_port) answer_datagram(service, &from, datagram, (size_t)len);
     }
     return 0;
 }
@@ -118,8 +130,10 @@ static void print_other_counts(void) {
     if (snmpsec_agent_counts(agent, &n)) return;
     const struct { const char *name; uint32_t value; } counts[] = {
         {"snmpUnknownPDUHandlers", n.unknown_pdu_handlers}, {"snmpUnavailableContexts", n.unavailable_contexts},
-        {"snmpUnknownContexts", n.unknown_contexts}, {"snmpInBadVersions", n.bad_versions}, {"snmpInASNParseErrs", n.asn_parse_errors},
-        {"snmpUnknownSecurityModels", n.unknown_security_models}, {"snmpInvalidMsgs", n.invalid_messages}, {"snmpSilentDrops", n.silent_drops}};
+        {"snmpUnknownContexts", n.unknown_contexts}, {"snmpInBadVersions", n.bad_versions},
+        {"snmpInASNParseErrs", n.asn_parse_errors},
+        {"snmpUnknownSecurityModels", n.unknown_security_models}, {"snmpInvalidMsgs", n.invalid_messages},
+        {"snmpSilentDrops", n.silent_drops}};
     for (size_t i = 0; i < sizeof counts / sizeof *counts; i++) printf("%s: %u\n", counts[i].name, counts[i].value);
 }
 
@@ -152,7 +166,9 @@ struct words {
 static int print_usage(FILE *to, int status) {
     fputs("agent [OPTION..] CONFIG TABLE ENGINE-ID BOOTS-FILE PORT [TRAP-PORT USER LEVEL]\n"
           "  --must-exist          refuse an absent boots file, instead of boots 1\n"
-          "  --long-answers        an answer without authentication may be longer than 1472 octets and twice its request\n"
+          "  --long-answers        an answer without authentication may be longer than 1472 octets and twice its "
+          "request;\n"
+          "                        so a forged address is sent up to 65507 octets for a request of 92\n"
           "  --no-amplification    an answer without authentication is never longer than its request\n"
           "  --unauthenticated PERCENT\n"
           "                        the share of the time that messages without authentication may take, 1 to 100 (20)\n"
@@ -163,15 +179,20 @@ static int print_usage(FILE *to, int status) {
 
 /* Reads the options: -1 where the words follow, or the status to end with. */
 static int read_options(int argc, char **argv, struct words *words) {
-    static const struct option options[] = {{"must-exist", no_argument, NULL, 'm'}, {"long-answers", no_argument, NULL, 'l'},
-                                            {"no-amplification", no_argument, NULL, 'n'}, {"unauthenticated", required_argument, NULL, 'u'},
+    static const struct option options[] = {{"must-exist", no_argument, NULL, 'm'},
+                                            {"long-answers", no_argument, NULL, 'l'},
+                                            {"no-amplification", no_argument, NULL, 'n'},
+                                            {"unauthenticated", required_argument, NULL, 'u'},
                                             {"version", no_argument, NULL, 'v'}, {"help", no_argument, NULL, 'h'}, {0}};
     for (int option; (option = getopt_long(argc, argv, "+", options, NULL)) != -1;)
         switch (option) {
         case 'm': words->must_exist = true; break;
         case 'l': words->size = OF_MAX_SIZE; break;
         case 'n': words->size = OF_THE_REQUEST; break;
-        case 'u': if (number_of(optarg, 1, 100, &words->percent)) return bad_word("a share of the time in percent, 1 to 100", optarg); break;
+        case 'u':
+            if (number_of(optarg, 1, 100, &words->percent))
+                return bad_word("a share of the time in percent, 1 to 100", optarg);
+            break;
         case 'v': puts(snmpsec_version()); return 0;
         case 'h': return print_usage(stdout, 0);
         default: return print_usage(stderr, 2);
@@ -182,7 +203,8 @@ static int read_options(int argc, char **argv, struct words *words) {
 static int read_trap_words(char **word, struct words *words) {
     if (number_of(word[0], 1, 65535, &words->trap_port)) return bad_word("a port, 1 to 65535", word[0]);
     if (!word[1][0] || strlen(word[1]) > 32) return bad_word("a user's name, 1 to 32 octets", word[1]);
-    if (number_of(word[2], SNMPSEC_NO_AUTH_NO_PRIV, SNMPSEC_AUTH_PRIV, &words->level)) return bad_word("a level, 1 to 3", word[2]);
+    if (number_of(word[2], SNMPSEC_NO_AUTH_NO_PRIV, SNMPSEC_AUTH_PRIV, &words->level))
+        return bad_word("a level, 1 to 3", word[2]);
     words->user = word[1];
     words->has_trap = true;
     return -1;
@@ -204,16 +226,19 @@ static int read_words(int argc, char **argv, struct words *words) {
     return len == 8 ? read_trap_words(word + 5, words) : -1;
 }
 
-/* Makes the agent with the boots of this start, and keeps them: 0, or the status to end with. A start that fails before costs no boots. */
+/* Makes the agent with the boots of this start, and keeps them: 0, or the status to end with. A start that fails before
+ * costs no boots. */
 static int make_agent(const struct words *words, const uint8_t *config, size_t config_len) {
     uint32_t boots;
     if (boots_next(words->boots, words->must_exist, &boots)) return 2;
-    int answer = snmpsec_agent_new(config, config_len, words->engine, words->engine_len, boots, now_in_seconds(), &agent);
+    int answer = snmpsec_agent_new(config, config_len, words->engine, words->engine_len, boots, now_in_seconds(),
+                                   &agent);
     if (answer == SNMPSEC_BAD_CONFIGURATION) config_told("agent", words->config, config, config_len);
     else if (answer) fprintf(stderr, "agent: %s: %s\n", words->engine_word, snmpsec_strerror(answer));
     if (answer) return 1;
     if (boots == BOOTS_LATCHED)
-        fprintf(stderr, "agent: %s: boots are used up, so each authenticated message is refused: give the engine another ID, or all its users "
+        fprintf(stderr, "agent: %s: boots are used up, so each authenticated message is refused: give the engine "
+                        "another ID, or all its users "
                         "other passwords, and remove the file\n", words->boots);
     return boots_keep(words->boots, boots) ? 2 : 0;
 }
@@ -222,7 +247,8 @@ static int begin_agent(const struct words *words) {
     uint8_t *config;
     size_t config_len;
     if (file_read(words->config, MOST_CONFIG, &config, &config_len)) return 2;
-    int status = config_len ? make_agent(words, config, config_len) : bad_word("a configuration: the file is empty", words->config);
+    int status = config_len ? make_agent(words, config, config_len) : bad_word("a configuration: the file is empty",
+        words->config);
     file_free(config, config_len);
     return status;
 }
@@ -230,7 +256,8 @@ static int begin_agent(const struct words *words) {
 /* The port is taken before the boots, so that a start that fails costs none. */
 static int begin_socket(uint32_t port) {
     int made = socket(AF_INET, SOCK_DGRAM | SOCK_CLOEXEC, 0);
-    struct sockaddr_in here = {.sin_family = AF_INET, .sin_port = htons((uint16_t)port), .sin_addr = {htonl(INADDR_LOOPBACK)}};
+    struct sockaddr_in here = {.sin_family = AF_INET, .sin_port = htons((uint16_t)port),
+                               .sin_addr = {htonl(INADDR_LOOPBACK)}};
     if (made >= 0 && !bind(made, (struct sockaddr *)&here, sizeof here)) return made;
     fprintf(stderr, "agent: port %u: %s\n", port, strerror(errno));
     return -1;
@@ -249,8 +276,10 @@ int main(int argc, char **argv) {
     sigaction(SIGTERM, &action, NULL);
     sigaction(SIGINT, &action, NULL);
     if (words.has_trap)
-        send_trap(service.socket, (uint16_t)words.trap_port, words.user, (snmpsec_level)words.level, words.engine, words.engine_len);
+        send_trap(service.socket, (uint16_t)words.trap_port, words.user, (snmpsec_level)words.level, words.engine,
+                  words.engine_len);
     budget_begin(&service.budget, words.percent, now_in_nanoseconds());
+    budget_begin(&service.discoveries, SHARE_OF_DISCOVERIES, now_in_nanoseconds());
     status = serve(&service);
     print_counts(&service);
     snmpsec_agent_free(agent);

@@ -5,13 +5,18 @@
 /* a full bucket is the share of a tenth of a second */
 enum { SECOND = 1000000000, FULL = SECOND / 10, WHOLE = 100 };
 
-uint64_t now_in_nanoseconds(void) {
+static uint64_t nanoseconds_of(clockid_t clock) {
     struct timespec now;
-    clock_gettime(CLOCK_MONOTONIC, &now);
+    clock_gettime(clock, &now);
     return (uint64_t)now.tv_sec * SECOND + (uint64_t)now.tv_nsec;
 }
 
-static int64_t share_of(const struct budget *budget, uint64_t nanoseconds) { return (int64_t)(nanoseconds / WHOLE * budget->percent); }
+uint64_t now_in_nanoseconds(void) { return nanoseconds_of(CLOCK_MONOTONIC); }
+uint64_t work_in_nanoseconds(void) { return nanoseconds_of(CLOCK_THREAD_CPUTIME_ID); }
+
+static int64_t share_of(const struct budget *budget, uint64_t nanoseconds) {
+    return (int64_t)(nanoseconds / WHOLE * budget->percent);
+}
 
 void budget_begin(struct budget *budget, uint32_t percent, uint64_t now) {
     *budget = (struct budget){.percent = percent, .filled_at = now};

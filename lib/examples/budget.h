@@ -1,4 +1,6 @@
-/* A token bucket of time: a share of it is what the agent spends on senders that it can't tell. Not proved. */
+/* A token bucket of time: a share of it is what the agent spends on senders that it can't tell. It fills as time
+ * passes, and what is spent is the processor's time: a machine that does other work takes nothing from it. Not
+ * proved. */
 #ifndef BUDGET_H
 #define BUDGET_H
 
@@ -13,8 +15,9 @@ struct budget {
     uint64_t filled_at;
 };
 
-/* A clock that never goes back, in nanoseconds. */
+/* A clock that never goes back, and the processor's time that the calling thread has used, in nanoseconds. */
 uint64_t now_in_nanoseconds(void);
+uint64_t work_in_nanoseconds(void);
 
 /* Begins with a full bucket. */
 void budget_begin(struct budget *budget, uint32_t percent, uint64_t now);

@@ -3,10 +3,11 @@
 #include <stdio.h>
 #include <string.h>
 
-/* a key in a configuration may be long; of a longer text the front is told */
+/* a key in a configuration may be long; of a longer text the front is reported */
 enum { MOST_TOLD = 65536 };
 
-/* Prints a line. Its keys are the file's own words: a control character in them would reach the terminal, so it is printed as \xNN. */
+/* Prints a line. Its keys are the file's own words: a control character in them would reach the terminal, so it is
+ * printed as \xNN. */
 static void print_line(const uint8_t *text, size_t len) {
     for (size_t i = 0; i < len; i++) {
         if (text[i] == 0xc2 && i + 1 < len && text[i + 1] < 0xa0) i++; /* U+0080 to U+009f in UTF-8 */
@@ -30,7 +31,8 @@ static void print_lines(const char *program, const char *path, const uint8_t *te
 /* Prints what a call told of the configuration, which the text has where it is refused. */
 static void print_told(const char *program, const char *path, int answer, uint8_t *text, size_t len) {
     if (answer == SNMPSEC_BAD_CONFIGURATION) print_lines(program, path, text, len);
-    else fprintf(stderr, "%s: %s: %s\n", program, path, snmpsec_strerror(answer == SNMPSEC_OUT_OF_MEMORY ? answer : SNMPSEC_BAD_CONFIGURATION));
+    else fprintf(stderr, "%s: %s: %s\n", program, path, snmpsec_strerror(answer == SNMPSEC_OUT_OF_MEMORY ? answer
+        : SNMPSEC_BAD_CONFIGURATION));
     snmpsec_wipe(text, MOST_TOLD);
 }
 

@@ -10,7 +10,11 @@
 #include <sys/file.h>
 #include <sys/prctl.h>
 #include <sys/stat.h>
+#include <time.h>
 #include <unistd.h>
+
+/* from one try of a lock to the next, in nanoseconds */
+#define LOCK_PAUSE 10000000L
 
 static int told(const char *path, const char *why) {
     fprintf(stderr, "%s: %s\n", path, why);
@@ -53,14 +57,17 @@ static ssize_t read_all(int file, uint8_t *octets, size_t most) {
     return (ssize_t)len;
 }
 
+static bool is_of_other(const struct stat *stat) { return stat->st_uid && stat->st_uid != geteuid(); }
+
 /* One octet more than is allowed is asked for: a file may grow while it is read. */
-int file_read(const char *path, size_t most, uint8_t **octets, size_t *octets_len) {
+static int read_checked(const char *path, bool is_own, size_t most, uint8_t **octets, size_t *octets_len) {
     struct stat stat;
     int file = open(path, O_RDONLY | O_CLOEXEC | O_NONBLOCK | O_NOCTTY), answer = -1;
     *octets = NULL;
     if (file < 0) return told_errno(path);
     if (fstat(file, &stat)) told_errno(path);
     else if (!S_ISREG(stat.st_mode)) told(path, "not a regular file");
+    else if (is_own && is_of_other(&stat)) told(path, "the file is another user's");
     else if ((uint64_t)stat.st_size > most) told(path, "too long");
     else if (!(*octets = malloc(most + 1))) told_errno(path);
     else {
@@ -72,6 +79,14 @@ int file_read(const char *path, size_t most, uint8_t **octets, size_t *octets_le
     close(file);
     if (answer && *octets) { file_free(*octets, most + 1); *octets = NULL; }
     return answer;
+}
+
+int file_read(const char *path, size_t most, uint8_t **octets, size_t *octets_len) {
+    return read_checked(path, false, most, octets, octets_len);
+}
+
+int file_read_own(const char *path, size_t most, uint8_t **octets, size_t *octets_len) {
+    return read_checked(path, true, most, octets, octets_len);
 }
 
 void file_free(uint8_t *octets, size_t octets_len) {
@@ -90,7 +105,7 @@ static int write_all(int file, const uint8_t *octets, size_t octets_len) {
     return 0;
 }
 
-/* what mkostemp puts something else in the place of: a name that nobody can know before */
+/* what mkostemp replaces: a name that nobody can know before */
 static const char new_ending[] = ".new.XXXXXX";
 
 static int write_new(char *name, const void *octets, size_t octets_len) {
@@ -138,16 +153,18 @@ int file_replace(const char *path, const void *octets, size_t octets_len) {
 static int check_folder(int folder, const char *name) {
     struct stat stat;
     if (fstat(folder, &stat)) return told_errno(name);
-    if (stat.st_uid && stat.st_uid != geteuid()) return told(name, "the folder is another user's: name a file in a folder of your own");
+    if (is_of_other(&stat)) return told(name, "the folder is another user's: name a file in a folder of your own");
     if (stat.st_mode & (S_IWGRP | S_IWOTH))
-        return told(name, "other users may write to the folder: chmod go-w it, or name a file in a folder that only you may write to");
+        return told(name, "other users may write to the folder: chmod go-w it, or name a file in a folder that only "
+                          "you may write to");
     return 0;
 }
 
 /* Whether an entry of the file's folder is a new file of file_replace, which a process that was killed left. */
 static bool is_left_over(const char *entry, const char *base) {
     size_t base_len = strlen(base);
-    return strlen(entry) == base_len + sizeof new_ending - 1 && !strncmp(entry, base, base_len) && !strncmp(entry + base_len, new_ending, 5);
+    return strlen(entry) == base_len + sizeof new_ending - 1 && !strncmp(entry, base, base_len)
+        && !strncmp(entry + base_len, new_ending, 5);
 }
 
 static void remove_left_over(int folder, const char *base) {
@@ -159,21 +176,33 @@ static void remove_left_over(int folder, const char *base) {
     closedir(entries);
 }
 
-/* The lock's file stays: one that is unlinked could be locked twice. */
-static int lock_name(const char *path, const char *name) {
+/* Locks a file, which another process may have for a while. */
+static int wait_for_lock(int file) {
+    const struct timespec pause = {.tv_nsec = LOCK_PAUSE};
+    for (long left = LOCK_SECONDS * (1000000000L / LOCK_PAUSE); flock(file, LOCK_EX | LOCK_NB); left--) {
+        if (errno != EINTR && (errno != EWOULDBLOCK || left <= 0)) return -1;
+        nanosleep(&pause, NULL);
+    }
+    return 0;
+}
+
+/* The lock's file stays: one that is unlinked could be locked twice. An older one may be open to all, who could hold
+ * it. */
+static int lock_name(const char *path, const char *name, int *lock) {
     int file = open(name, O_RDWR | O_CREAT | O_NOFOLLOW | O_NONBLOCK | O_CLOEXEC, 0600);
     if (file < 0) return told_errno(name);
-    if (!flock(file, LOCK_EX | LOCK_NB)) return 0;
-    int bad = told(path, errno == EWOULDBLOCK ? "another process uses it" : strerror(errno));
+    int bad = fchmod(file, 0600) && errno != EPERM;
+    if (!bad && !wait_for_lock(file)) { if (lock) *lock = file; return 0; }
+    bad = told(path, errno == EWOULDBLOCK ? "another process uses it" : strerror(errno));
     close(file);
     return bad;
 }
 
 /* Locks the file in its folder, which is checked before; what other processes left is removed. */
-static int lock_in(const char *path, const char *folder_name, const char *lock) {
+static int lock_in(const char *path, const char *folder_name, const char *name, int *lock) {
     int folder = open(folder_name, O_RDONLY | O_DIRECTORY | O_CLOEXEC);
     if (folder < 0) return told_errno(folder_name);
-    int bad = check_folder(folder, folder_name) || lock_name(path, lock);
+    int bad = check_folder(folder, folder_name) || lock_name(path, name, lock);
     if (!bad) {
         const char *slash = strrchr(path, '/');
         remove_left_over(folder, slash ? slash + 1 : path);
@@ -182,11 +211,11 @@ static int lock_in(const char *path, const char *folder_name, const char *lock) 
     return bad ? -1 : 0;
 }
 
-int file_lock(const char *path) {
-    char *folder = folder_of(path), *lock = with_ending(path, ".lock");
-    int bad = folder && lock ? lock_in(path, folder, lock) : told(path, "out of memory");
+int file_lock(const char *path, int *lock) {
+    char *folder = folder_of(path), *name = with_ending(path, ".lock");
+    int bad = folder && name ? lock_in(path, folder, name, lock) : told(path, "out of memory");
     free(folder);
-    free(lock);
+    free(name);
     return bad;
 }
 
@@ -212,18 +241,19 @@ static int boots_before(const char *path, bool must_exist, uint32_t *boots) {
     size_t text_len;
     *boots = 0;
     if (!must_exist && file_is_absent(path)) return 0;
-    if (file_read(path, 64, &text, &text_len)) return -1;
+    if (file_read_own(path, 64, &text, &text_len)) return -1;
     int64_t before = boots_of(text, text_len);
     file_free(text, text_len);
     if (before < 0)
-        return told(path, "no number from 0 to 2147483647. If the greatest boots that the engine had are known, write them there; else give the "
+        return told(path, "no number from 0 to 2147483647. If the greatest boots that the engine had are known, write "
+                          "them there; else give the "
                           "engine another ID, or all its users other passwords, and remove the file");
     *boots = (uint32_t)before;
     return 0;
 }
 
 int boots_next(const char *path, bool must_exist, uint32_t *boots) {
-    if (file_lock(path) || boots_before(path, must_exist, boots)) return -1;
+    if (file_lock(path, NULL) || boots_before(path, must_exist, boots)) return -1;
     if (*boots != BOOTS_LATCHED) ++*boots;
     return 0;
 }

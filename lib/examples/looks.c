@@ -29,7 +29,8 @@ bool looks_may(struct looks *looks, snmpsec_view view, const uint32_t *arcs, siz
     return status == SNMPSEC_NO_ERROR;
 }
 
-/* How many rows, from this hidden one on, come before the next name that the sender may see (RFC 3416, section 4.2.2). */
+/* How many rows, from this hidden one on, come before the next name that the sender may see (RFC 3416, section
+ * 4.2.2). */
 static uint16_t hidden_from(const struct looks *looks, size_t i) {
     uint32_t arcs[MOST_ARCS];
     size_t len = 0, end = looks->table->rows_len;

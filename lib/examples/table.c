@@ -34,12 +34,14 @@ static int number_value(struct row *row, uint8_t tag, const char *text, int64_t 
     return 0;
 }
 
-/* The content of an OBJECT IDENTIFIER, by the library: the binding of that name is written, and its name's content taken. */
+/* The content of an OBJECT IDENTIFIER, by the library: the binding of that name is written, and its name's content
+ * taken. */
 static int name_value(struct row *row, const char *text) {
     uint32_t arcs[MOST_ARCS];
     uint8_t binding[1024];
     size_t written, arcs_len;
-    if (arcs_of(text, MOST_ARCS, arcs, &arcs_len) || snmpsec_binding_write(arcs, arcs_len, 0x05, NULL, 0, binding, sizeof binding, &written)) return -1;
+    if (arcs_of(text, MOST_ARCS, arcs, &arcs_len) || snmpsec_binding_write(arcs, arcs_len, 0x05, NULL, 0, binding,
+        sizeof binding, &written)) return -1;
     size_t at = binding[1] < 0x80 ? 2 : 2 + (binding[1] & 0x7fu);
     size_t head = binding[at + 1] < 0x80 ? 2 : 2 + (binding[at + 1] & 0x7fu);
     row->tag = 0x06;
@@ -105,7 +107,8 @@ static int read_rows(struct table *table, const char *path, char *text) {
 static int sort_rows(struct table *table, const char *path) {
     qsort(table->rows, table->rows_len, sizeof *table->rows, by_name);
     for (size_t i = 1; i < table->rows_len; i++)
-        if (!by_name(&table->rows[i - 1], &table->rows[i])) return told(path, table->rows[i].line, "its name has another row too");
+        if (!by_name(&table->rows[i - 1], &table->rows[i]))
+            return told(path, table->rows[i].line, "its name has another row too");
     return 0;
 }
 
@@ -115,7 +118,8 @@ int table_load(struct table *table, const char *path) {
     *table = (struct table){.rows = calloc(MOST_ROWS, sizeof *table->rows)};
     if (!table->rows) { fprintf(stderr, "%s: no memory\n", path); return -1; }
     if (file_read(path, MOST_ROWS * 8192, &text, &text_len)) return -1;
-    int bad = memchr(text, 0, text_len) ? told(path, 1, "the file has an octet 0") : read_rows(table, path, (char *)text);
+    int bad = memchr(text, 0, text_len) ? told(path, 1, "the file has an octet 0")
+        : read_rows(table, path, (char *)text);
     file_free(text, text_len);
     return bad ? -1 : sort_rows(table, path);
 }

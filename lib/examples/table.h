@@ -1,5 +1,6 @@
-/* A table of variables in a file, for the example agent. A line is OID TYPE VALUE, in any order: i an INTEGER, u a Gauge32, c a
- * Counter32, t TimeTicks, o an OBJECT IDENTIFIER, s a text, x octets in hex. A line that begins with # is none. Not proved. */
+/* A table of variables in a file, for the example agent. A line is OID TYPE VALUE, in any order: i an INTEGER, u a
+ * Gauge32, c a Counter32, t TimeTicks, o an OBJECT IDENTIFIER, s a text, x octets in hex. A line that begins with # is
+ * none. Not proved. */
 #ifndef TABLE_H
 #define TABLE_H
 
@@ -22,7 +23,8 @@ struct table {
     size_t rows_len;
 };
 
-/* Loads it, in the order of the names: 0, or -1 and says on standard error which line isn't a row, or why there is no table. */
+/* Loads it, in the order of the names: 0, or -1 and says on standard error which line isn't a row, or why there is no
+ * table. */
 int table_load(struct table *table, const char *path);
 /* The row of this name, or NULL. */
 struct row *table_at(struct table *table, const uint32_t *arcs, size_t arcs_len);

@@ -60,8 +60,10 @@ static bool take_pdu(struct rest rest, struct pdu *pdu, struct rest *list) {
     struct rest message, community, inner;
     uint32_t version;
     *pdu = (struct pdu){0};
-    return take(&rest, SEQUENCE, &message) && take_number(&message, &version) && take(&message, OCTET_STRING, &community)
-        && take_any(&message, &pdu->tag, &inner) && take_number(&inner, &pdu->request_id) && take_number(&inner, &pdu->status)
+    return take(&rest, SEQUENCE, &message) && take_number(&message, &version)
+        && take(&message, OCTET_STRING, &community)
+        && take_any(&message, &pdu->tag, &inner) && take_number(&inner, &pdu->request_id)
+        && take_number(&inner, &pdu->status)
         && take_number(&inner, &pdu->index) && take(&inner, SEQUENCE, list);
 }
 
@@ -86,7 +88,8 @@ bool name_of(const uint8_t *list, size_t list_len, size_t number, const uint8_t 
 bool trap_oid_of(const uint8_t *datagram, size_t len, const uint8_t **oid, size_t *oid_len) {
     struct rest list, first, second, name, value;
     struct pdu pdu;
-    if (!take_pdu((struct rest){datagram, len}, &pdu, &list) || !take(&list, SEQUENCE, &first) || !take(&list, SEQUENCE, &second)
+    if (!take_pdu((struct rest){datagram, len}, &pdu, &list) || !take(&list, SEQUENCE, &first)
+        || !take(&list, SEQUENCE, &second)
         || !take(&second, OBJECT_IDENTIFIER, &name) || !take(&second, OBJECT_IDENTIFIER, &value))
         return false;
     *oid = value.at;
@@ -95,8 +98,10 @@ bool trap_oid_of(const uint8_t *datagram, size_t len, const uint8_t **oid, size_
 }
 
 static const char *const statuses[STATUSES] = {
-    "noError", "tooBig", "noSuchName", "badValue", "readOnly", "genErr", "noAccess", "wrongType", "wrongLength", "wrongEncoding", "wrongValue",
-    "noCreation", "inconsistentValue", "resourceUnavailable", "commitFailed", "undoFailed", "authorizationError", "notWritable", "inconsistentName"};
+    "noError", "tooBig", "noSuchName", "badValue", "readOnly", "genErr", "noAccess", "wrongType", "wrongLength",
+    "wrongEncoding", "wrongValue",
+    "noCreation", "inconsistentValue", "resourceUnavailable", "commitFailed", "undoFailed", "authorizationError",
+    "notWritable", "inconsistentName"};
 
 const char *status_name(uint32_t status) { return status < STATUSES ? statuses[status] : NULL; }
 

@@ -8,7 +8,8 @@
 #include <stdint.h>
 
 /* of a device: what it was asked and what came from it */
-struct device_counts { uint64_t asked, asked_again, answered, unfit, given_up, not_waited_for, unreadable, errors, notifies; };
+struct device_counts { uint64_t asked, asked_again, answered, unfit, given_up, not_waited_for, unreadable, errors,
+                      notifies; };
 
 /* the kinds of snmpsec_misfit, and that there is none */
 enum { MISFITS = SNMPSEC_MISFIT_AFTER_END + 1 };
@@ -25,12 +26,15 @@ struct counts {
     uint64_t refused[19];
     /* answers of devices by their error-status; the last is of those that have no name */
     uint64_t statuses[STATUSES + 1];
-    /* answers of devices that don't fit what was asked, by why; and bindings of their answers that the user may not read */
+    /* answers of devices that don't fit what was asked, by why; and bindings of their answers that the user may not
+     * read */
     uint64_t misfits[MISFITS], hidden_bindings;
-    /* Responses to clients, by their error-status, and Reports on requests; and requests that wanted more rounds than they may have */
+    /* Responses to clients, by their error-status, and Reports on requests; and requests that wanted more rounds than
+     * they may have */
     uint64_t responses[STATUSES + 1], request_reports, rounds_used_up;
     uint64_t reports, unsent, unlogged;
-    /* by the event's number: what was taken of devices' Traps and of receivers, and what went to these; and datagrams that no device's address sent */
+    /* by the event's number: what was taken of devices' Traps and of receivers, and what went to these; and datagrams
+     * that no device's address sent */
     uint64_t forwards[SNMPSEC_FORWARD_INFORM_UNSENT + 1], traps_of_nobody;
     /* by what was sent for Informs; and by the refusal's number, what came from receivers */
     uint64_t informs[INFORM_MESSAGES], receivers_refused[19];
@@ -51,12 +55,17 @@ struct told {
     const struct counts *counts;
     const struct device *devices;
     size_t devices_len;
+    const struct listener *listeners;
+    size_t listeners_len;
+    const struct listener *trap_listeners;
+    size_t trap_listeners_len;
     snmpsec_gate *gate;
     /* or NULL: no Traps are taken */
     snmpsec_forward *forward;
 };
 
-/* Writes the counts to a file, whole and replaced, or to standard error where the path is NULL: 0, or -1 and says why. */
+/* Writes the counts to a file, whole and replaced, or to standard error where the path is NULL: 0, or -1 and says
+ * why. */
 int counts_write(const struct told *told, const char *path);
 
 #endif

@@ -1,10 +1,11 @@
 /* A gateway from managers that speak SNMPv3 to devices that speak SNMPv2c: snmpsec-gate [OPTION..] CONFIG
  *
- * The library decides who asks, whether it is fresh, what this user may see and set, what a device is asked and what goes back. Here stand the
- * sockets, the clock, the salts, the boots and the lines. Not proved. */
+ * The library decides who asks, whether it is fresh, what this user may see and set, what a device is asked and what
+ * goes back. Here stand the sockets, the clock, the salts, the boots and the lines. Not proved. */
 #define _GNU_SOURCE
 #include "files.h"
 #include "gateway.h"
+#include "lines.h"
 #include "service.h"
 #include <getopt.h>
 #include <stdio.h>
@@ -24,8 +25,10 @@ static int print_usage(FILE *to, int status) {
 /* Reads the options and the word: -1 where all is well, or the status to end with. */
 static int read_words(int argc, char **argv, struct words *words) {
     static const struct option options[] = {{"check", no_argument, NULL, 'c'}, {"listen", required_argument, NULL, 'l'},
-                                            {"user", required_argument, NULL, 'u'}, {"log-datagrams", required_argument, NULL, 'd'},
-                                            {"counts", required_argument, NULL, 'n'}, {"version", no_argument, NULL, 'v'},
+                                            {"user", required_argument, NULL, 'u'},
+                                            {"log-datagrams", required_argument, NULL, 'd'},
+                                            {"counts", required_argument, NULL, 'n'},
+                                            {"version", no_argument, NULL, 'v'},
                                             {"help", no_argument, NULL, 'h'}, {0}};
     for (int option; (option = getopt_long(argc, argv, "", options, NULL)) != -1;)
         switch (option) {
@@ -49,9 +52,10 @@ static int read_words(int argc, char **argv, struct words *words) {
 int main(int argc, char **argv) {
     static struct gateway gateway;
     static struct words words;
-    keep_secrets();
     int status = read_words(argc, argv, &words);
     if (status != -1) return status;
+    if (!words.checks) lines_begin();
+    keep_secrets();
     if (words.checks) return gateway_check(&words);
     hold_signals();
     status = gateway_open(&gateway, &words);

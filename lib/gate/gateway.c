@@ -14,6 +14,7 @@
 #include <stdlib.h>
 #include <string.h>
 #include <sys/epoll.h>
+#include <sys/stat.h>
 #include <time.h>
 #include <unistd.h>
 
@@ -35,9 +36,10 @@ char *setting_of(snmpsec_gate *gate, snmpsec_gate_text text, size_t position, si
     return copy;
 }
 
-/* Makes the machine of a text, and where it says where Traps are taken and who is sent them, the one for these; of the same text, so that their devices
- * are the same. Without boots it only reads what the text says. */
-static int make_of(const uint8_t *config, size_t len, const uint32_t *boots, snmpsec_gate **gate, snmpsec_forward **forward) {
+/* Makes the machine of a text, and where it says where Traps are taken and who is sent them, the one for these; of the
+ * same text, so that their devices are the same. Without boots it only reads what the text says. */
+static int make_of(const uint8_t *config, size_t len, const uint32_t *boots, snmpsec_gate **gate,
+                   snmpsec_forward **forward) {
     uint64_t started = now_in_milliseconds() / 1000;
     if (!boots) return snmpsec_gate_read(config, len, gate);
     int answer = snmpsec_gate_new(config, len, *boots, started, gate);
@@ -59,7 +61,8 @@ static int make_gate(const char *path, const uint32_t *boots, snmpsec_gate **gat
 
 size_t count_of(snmpsec_gate *gate, snmpsec_gate_text text) {
     size_t n = 0, len = 0;
-    for (int answer; (answer = snmpsec_gate_setting(gate, text, n, NULL, 0, &len)) == SNMPSEC_SHORT_BUFFER || !answer;) n++;
+    for (int answer; (answer = snmpsec_gate_setting(gate, text, n, NULL, 0, &len)) == SNMPSEC_SHORT_BUFFER || !answer;)
+        n++;
     return n;
 }
 
@@ -96,7 +99,8 @@ static void say_one_host(snmpsec_gate *gate) {
         if (j == i) continue;
         context_words(gate, i, words);
         context_words(gate, j, earlier);
-        fprintf(stderr, "snmpsec-gate: device %s: device %s has its address, so their Traps are told apart by their communities\n", words, earlier);
+        fprintf(stderr, "snmpsec-gate: device %s: device %s has its address, so their Traps are distinguished by their "
+                        "communities\n", words, earlier);
     }
 }
 
@@ -108,10 +112,27 @@ static void say_notes(snmpsec_gate *gate) {
     if (takes && !sends) fprintf(stderr, "snmpsec-gate: traps: no Traps are taken, since there is no receiver\n");
 }
 
+/* Says what about the file is probably a mistake: who may read it, and an engine ID that the documents show. */
+static void say_file(const char *path) {
+    static const char *const examples[] = {"80001f8804676174652d31", "80001f8804616263", "80001f88046b6f77616e7169"};
+    struct stat stat_of;
+    uint8_t *config;
+    size_t len;
+    if (!stat(path, &stat_of) && stat_of.st_mode & S_IROTH)
+        fprintf(stderr, "snmpsec-gate: %s: all users may read its communities and passwords: chmod o-r it\n", path);
+    if (file_read(path, MOST_CONFIG, &config, &len)) return;
+    for (size_t i = 0; len && i < sizeof examples / sizeof *examples; i++)
+        if (strcasestr((const char *)config, examples[i]))
+            fprintf(stderr, "snmpsec-gate: %s: engine: %s is an example's engine ID, and each gateway needs its own\n",
+                    path, examples[i]);
+    file_free(config, len);
+}
+
 int gateway_check(const struct words *words) {
     snmpsec_gate *gate = NULL;
     int status = make_gate(words->config, NULL, &gate, NULL);
     if (status) return status;
+    say_file(words->config);
     say_notes(gate);
     printf("%zu devices, %zu addresses\n", count_of(gate, SNMPSEC_GATE_ADDRESS), count_of(gate, SNMPSEC_GATE_LISTEN));
     say_receivers(gate);
@@ -126,17 +147,27 @@ static int watch(struct gateway *gateway, int file, enum source source, size_t n
     return 1;
 }
 
+static void say_room(const struct listener *listener) {
+    fprintf(stderr, "snmpsec-gate: %s: %d octets of datagrams may wait", listener->words, listener->room);
+    if (listener->room < ROOM_WANTED) fprintf(stderr, ", and %d were asked for (net.core.rmem_max)", ROOM_WANTED);
+    fputc('\n', stderr);
+}
+
 /* Opens a socket at each address where Traps are taken, if anybody is sent them. */
 static int open_trap_listeners(struct gateway *gateway) {
     size_t n = count_of(gateway->gate, SNMPSEC_GATE_RECEIVER) ? count_of(gateway->gate, SNMPSEC_GATE_TRAPS) : 0, len;
-    if (n > MOST_LISTENERS) { fprintf(stderr, "snmpsec-gate: more than %d addresses to take Traps at\n", MOST_LISTENERS); return 1; }
+    if (n > MOST_LISTENERS) {
+        fprintf(stderr, "snmpsec-gate: more than %d addresses to take Traps at\n", MOST_LISTENERS);
+        return 1;
+    }
     for (size_t i = 0; i < n; i++) {
         char *address = setting_of(gateway->gate, SNMPSEC_GATE_TRAPS, i, &len);
         int fault = !address || listen_at(address, &gateway->trap_listeners[i]);
         free(address);
         if (fault) return 1;
         gateway->trap_listeners_len++;
-        if (watch(gateway, gateway->trap_listeners[i], FROM_TRAPS, i)) return 1;
+        say_room(&gateway->trap_listeners[i]);
+        if (watch(gateway, gateway->trap_listeners[i].socket, FROM_TRAPS, i)) return 1;
     }
     return 0;
 }
@@ -144,20 +175,25 @@ static int open_trap_listeners(struct gateway *gateway) {
 /* Opens a listening socket at each address of the command line, or else of the configuration. */
 static int open_listeners(struct gateway *gateway, const struct words *words) {
     size_t n = words->listens ? words->listens : count_of(gateway->gate, SNMPSEC_GATE_LISTEN), len;
-    if (n > MOST_LISTENERS) { fprintf(stderr, "snmpsec-gate: more than %d addresses to listen at\n", MOST_LISTENERS); return 1; }
+    if (n > MOST_LISTENERS) {
+        fprintf(stderr, "snmpsec-gate: more than %d addresses to listen at\n", MOST_LISTENERS);
+        return 1;
+    }
     for (size_t i = 0; i < n; i++) {
-        char *address = words->listens ? strdup(words->listen[i]) : setting_of(gateway->gate, SNMPSEC_GATE_LISTEN, i, &len);
+        char *address = words->listens ? strdup(words->listen[i]) : setting_of(gateway->gate, SNMPSEC_GATE_LISTEN, i,
+            &len);
         int fault = !address || listen_at(address, &gateway->listeners[i]);
         free(address);
         if (fault) return 1;
         gateway->listeners_len++;
-        if (watch(gateway, gateway->listeners[i], FROM_CLIENT, i)) return 1;
+        say_room(&gateway->listeners[i]);
+        if (watch(gateway, gateway->listeners[i].socket, FROM_CLIENT, i)) return 1;
     }
     return 0;
 }
 
-static void close_all(int *files, size_t *len) {
-    while (*len) close(files[--*len]);
+static void close_listeners(struct listener *listeners, size_t *len) {
+    while (*len) close(listeners[--*len].socket);
 }
 
 static void close_devices(struct device *devices, size_t *len) {
@@ -172,7 +208,8 @@ static int open_devices(snmpsec_gate *gate, struct device *devices, size_t *devi
     if (n > MOST_DEVICES) { fprintf(stderr, "snmpsec-gate: more than %d devices\n", MOST_DEVICES); return 1; }
     for (size_t i = 0; i < n; i++) {
         char *address = setting_of(gate, SNMPSEC_GATE_ADDRESS, i, &len);
-        int fault = !address || address_of(address, &devices[i].address, &address_len) || connect_to(address, &devices[i].socket);
+        int fault = !address || address_of(address, &devices[i].address, &address_len)
+            || connect_to(address, &devices[i].socket);
         free(address);
         if (fault) { close_devices(devices, devices_len); return 1; }
         context_words(gate, i, devices[i].words);
@@ -212,7 +249,8 @@ static int become(const char *name) {
     return 1;
 }
 
-/* Locks the boots' file, and makes the machine with the boots of this start, instead of what read the file; they are kept before anything is sent. */
+/* Locks the boots' file, and makes the machine with the boots of this start, instead of what read the file; they are
+ * kept before anything is sent. */
 static int begin_boots(struct gateway *gateway, const struct words *words) {
     uint32_t boots;
     size_t len;
@@ -233,10 +271,13 @@ int gateway_open(struct gateway *gateway, const struct words *words) {
     say_notes(gateway->gate);
     gateway->poll = epoll_create1(EPOLL_CLOEXEC);
     if (gateway->poll < 0) { perror("snmpsec-gate: epoll"); return 1; }
-    if (open_listeners(gateway, words) || open_devices(gateway->gate, gateway->devices, &gateway->devices_len) || watch_devices(gateway)) return 1;
-    if (open_trap_listeners(gateway) || open_receivers(gateway->gate, gateway->receivers, &gateway->receivers_len) || watch_receivers(gateway)) return 1;
+    if (open_listeners(gateway, words) || open_devices(gateway->gate, gateway->devices, &gateway->devices_len)
+        || watch_devices(gateway)) return 1;
+    if (open_trap_listeners(gateway) || open_receivers(gateway->gate, gateway->receivers, &gateway->receivers_len)
+        || watch_receivers(gateway)) return 1;
     if (words->user && become(words->user)) return 1;
-    if (words->log && (gateway->log = open(words->log, O_WRONLY | O_APPEND | O_CREAT | O_CLOEXEC | O_NOCTTY, 0600)) < 0) {
+    if (words->log && (gateway->log = open(words->log, O_WRONLY | O_APPEND | O_CREAT | O_CLOEXEC | O_NOCTTY,
+                                           0600)) < 0) {
         fprintf(stderr, "snmpsec-gate: %s: %s\n", words->log, strerror(errno));
         return 1;
     }
@@ -272,7 +313,8 @@ static void say_listeners(snmpsec_gate *old, snmpsec_gate *new, snmpsec_gate_tex
 }
 
 /* Puts the new machine and its sockets instead of the old ones. */
-static void replace_gate(struct gateway *gateway, snmpsec_gate *gate, uint32_t boots, struct device *devices, size_t len) {
+static void replace_gate(struct gateway *gateway, snmpsec_gate *gate, uint32_t boots, struct device *devices,
+                         size_t len) {
     for (size_t i = 0; i < len; i++) take_counts(gateway, &devices[i], i);
     close_devices(gateway->devices, &gateway->devices_len);
     memcpy(gateway->devices, devices, len * sizeof *devices);
@@ -286,7 +328,8 @@ static void replace_gate(struct gateway *gateway, snmpsec_gate *gate, uint32_t b
 }
 
 /* And the new one for Traps, with its receivers; what waited to be sent is gone. */
-static void replace_forward(struct gateway *gateway, snmpsec_forward *forward, const struct receiver *receivers, size_t len) {
+static void replace_forward(struct gateway *gateway, snmpsec_forward *forward, const struct receiver *receivers,
+                            size_t len) {
     close_receivers(gateway->receivers, &gateway->receivers_len);
     memcpy(gateway->receivers, receivers, len * sizeof *receivers);
     gateway->receivers_len = len;
@@ -302,7 +345,8 @@ void gateway_reload(struct gateway *gateway, const struct words *words) {
     snmpsec_forward *forward = NULL;
     size_t len = 0, receivers_len = 0;
     uint32_t boots = gateway->boots < BOOTS_LATCHED ? gateway->boots + 1 : BOOTS_LATCHED;
-    if (!make_gate(words->config, &boots, &gate, &forward) && has_boots_path(gateway, gate) && !open_devices(gate, devices, &len)
+    if (!make_gate(words->config, &boots, &gate, &forward) && has_boots_path(gateway, gate)
+        && !open_devices(gate, devices, &len)
         && !open_receivers(gate, receivers, &receivers_len) && !boots_keep(gateway->boots_path, boots)) {
         if (!words->listens) say_listeners(gateway->gate, gate, SNMPSEC_GATE_LISTEN, "listen");
         say_listeners(gateway->gate, gate, SNMPSEC_GATE_TRAPS, "traps");
@@ -320,15 +364,17 @@ void gateway_reload(struct gateway *gateway, const struct words *words) {
 }
 
 void gateway_counts(const struct gateway *gateway, const struct words *words) {
-    struct told told = {&gateway->counts, gateway->devices, gateway->devices_len, gateway->gate, gateway->forward};
+    struct told told = {&gateway->counts, gateway->devices, gateway->devices_len, gateway->listeners,
+                        gateway->listeners_len, gateway->trap_listeners, gateway->trap_listeners_len, gateway->gate,
+                        gateway->forward};
     (void)counts_write(&told, words->counts);
 }
 
 void gateway_close(struct gateway *gateway) {
     snmpsec_gate_free(gateway->gate);
     snmpsec_forward_free(gateway->forward);
-    close_all(gateway->listeners, &gateway->listeners_len);
-    close_all(gateway->trap_listeners, &gateway->trap_listeners_len);
+    close_listeners(gateway->listeners, &gateway->listeners_len);
+    close_listeners(gateway->trap_listeners, &gateway->trap_listeners_len);
     close_receivers(gateway->receivers, &gateway->receivers_len);
     close_devices(gateway->devices, &gateway->devices_len);
     if (gateway->log >= 0) close(gateway->log);

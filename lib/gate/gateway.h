@@ -26,13 +26,13 @@ struct gateway {
     /* the path of the boots' file, and its boots */
     char *boots_path;
     uint32_t boots;
-    int listeners[MOST_LISTENERS];
+    struct listener listeners[MOST_LISTENERS];
     size_t listeners_len;
     struct device devices[MOST_DEVICES];
     size_t devices_len;
     /* or NULL: no Traps are taken */
     snmpsec_forward *forward;
-    int trap_listeners[MOST_LISTENERS];
+    struct listener trap_listeners[MOST_LISTENERS];
     size_t trap_listeners_len;
     struct receiver receivers[MOST_RECEIVERS];
     size_t receivers_len;
@@ -57,7 +57,8 @@ uint64_t now_in_milliseconds(void);
 int gateway_check(const struct words *words);
 /* Makes the gateway, and opens its sockets: 0, or the status to end with. */
 int gateway_open(struct gateway *gateway, const struct words *words);
-/* Makes it anew of the file as it is now, with one more boot, so that no message of before is accepted again. Where that fails all stays. */
+/* Makes it anew of the file as it is now, with one more boot, so that no message of before is accepted again. Where
+ * that fails all stays. */
 void gateway_reload(struct gateway *gateway, const struct words *words);
 void gateway_close(struct gateway *gateway);
 /* Writes the counts where the command line says. */

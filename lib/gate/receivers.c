@@ -36,7 +36,8 @@ static int receiver_words(snmpsec_gate *gate, size_t number, const char *address
 static int open_receiver(snmpsec_gate *gate, size_t number, struct receiver *receiver) {
     size_t len;
     char *address = setting_of(gate, SNMPSEC_GATE_RECEIVER, number, &len);
-    int fault = !address || receiver_words(gate, number, address, receiver->words) || connect_to(address, &receiver->socket);
+    int fault = !address || receiver_words(gate, number, address, receiver->words)
+        || connect_to(address, &receiver->socket);
     free(address);
     return fault;
 }
@@ -79,7 +80,8 @@ static void say_devices(snmpsec_gate *gate, size_t receiver) {
 static void say_receiver(snmpsec_gate *gate, size_t receiver) {
     size_t len;
     char words[RECEIVER_WORDS], *address = setting_of(gate, SNMPSEC_GATE_RECEIVER, receiver, &len);
-    char *level = setting_of(gate, SNMPSEC_GATE_RECEIVER_LEVEL, receiver, &len), *kind = setting_of(gate, SNMPSEC_GATE_RECEIVER_KIND, receiver, &len);
+    char *level = setting_of(gate, SNMPSEC_GATE_RECEIVER_LEVEL, receiver, &len),
+        *kind = setting_of(gate, SNMPSEC_GATE_RECEIVER_KIND, receiver, &len);
     if (address && level && kind && !receiver_words(gate, receiver, address, words)) {
         printf("%s, %s, by %s: notified of", words, level, strcmp(kind, "inform") ? "Traps" : "Informs");
         say_devices(gate, receiver);
@@ -95,33 +97,42 @@ void say_receivers(snmpsec_gate *gate) {
 
 /* ---- lines */
 
-/* Says what became of a notification for a receiver, and why if that isn't empty. NULL: nothing is known of it any more. */
-static void say(const struct gateway *gateway, const struct notified *of, uint64_t receiver, const char *what, const char *why) {
+/* Says what became of a notification for a receiver, and why if that isn't empty. NULL: nothing is known of it any
+ * more. */
+static void say(const struct gateway *gateway, const struct notified *of, uint64_t receiver, const char *what,
+                const char *why) {
     if (!of || of->device >= gateway->devices_len) return;
-    line("device %s notifies of %s: %s %s%s%s", gateway->devices[of->device].words, of->oid, what, gateway->receivers[receiver].words, *why ? ": " : "", why);
+    line("device %s notifies of %s: %s %s%s%s", gateway->devices[of->device].words, of->oid, what,
+         gateway->receivers[receiver].words, *why ? ": " : "", why);
 }
 
-static void say_unsent(const struct gateway *gateway, const struct notified *of, uint64_t receiver, uint64_t now, const char *why) {
+static void say_unsent(const struct gateway *gateway, const struct notified *of, uint64_t receiver, uint64_t now,
+                       const char *why) {
     if (line_has_room(LINE_NOT_NOTIFIED, now)) say(gateway, of, receiver, "it isn't sent to", why);
 }
 
 /* A counter that a Report tells, by its number (RFC 3414, section 5, and RFC 3412, section 5). */
 static const char *counter_name(int counter) {
-    static const char *const names[] = {"no counter that is known", "usmStatsUnsupportedSecLevels", "usmStatsNotInTimeWindows", "usmStatsUnknownUserNames",
-                                        "usmStatsUnknownEngineIDs", "usmStatsWrongDigests", "usmStatsDecryptionErrors", "snmpUnknownPDUHandlers",
+    static const char *const names[] = {"no counter that is known", "usmStatsUnsupportedSecLevels",
+                                        "usmStatsNotInTimeWindows", "usmStatsUnknownUserNames",
+                                        "usmStatsUnknownEngineIDs", "usmStatsWrongDigests", "usmStatsDecryptionErrors",
+                                        "snmpUnknownPDUHandlers",
                                         "snmpUnavailableContexts", "snmpUnknownContexts"};
     return names[counter > 0 && counter < 10 ? counter : 0];
 }
 
 static const struct notified *told_of(const struct informed *inform) { return inform ? &inform->of : NULL; }
 
-/* Says that an Inform ends without an acknowledgement. A Report without authentication is a hint, since anybody can have sent it. */
+/* Says that an Inform ends without an acknowledgement. A Report without authentication is a hint, since anybody can
+ * have sent it. */
 static void say_given_up(const struct gateway *gateway, const snmpsec_forward_info *info, uint64_t now) {
     char why[120] = "its engine doesn't answer";
     const struct informed *inform = informed_of(info->inform);
     if (!line_has_room(LINE_NOT_NOTIFIED, now)) return;
     if (inform && inform->times) snprintf(why, sizeof why, "sent %u times", inform->times);
-    if (info->counter) snprintf(why + strlen(why), sizeof why - strlen(why), ", a Report says %s (not authenticated)", counter_name((int)info->counter));
+    if (info->counter)
+        snprintf(why + strlen(why), sizeof why - strlen(why), ", a Report says %s (not authenticated)",
+                 counter_name((int)info->counter));
     say(gateway, told_of(inform), info->receiver, "not acknowledged by", why);
 }
 
@@ -132,7 +143,8 @@ static void take_answer(struct gateway *gateway, uint64_t now, size_t receiver, 
     gateway->counts.forwards[event]++;
     if (snmpsec_forward_numbers(gateway->forward, &info)) return;
     const struct notified *of = told_of(informed_of(info.inform));
-    if (event == SNMPSEC_FORWARD_ACKNOWLEDGED && line_has_room(LINE_ACKNOWLEDGED, now)) say(gateway, of, receiver, "acknowledged by", "");
+    if (event == SNMPSEC_FORWARD_ACKNOWLEDGED && line_has_room(LINE_ACKNOWLEDGED, now))
+        say(gateway, of, receiver, "acknowledged by", "");
     if (event == SNMPSEC_FORWARD_DENIED && line_has_room(LINE_NOT_NOTIFIED, now))
         say(gateway, of, receiver, "refused by", counter_name((int)info.counter));
 }
@@ -145,11 +157,12 @@ static void take_datagram(struct gateway *gateway, size_t receiver, size_t len) 
     if (refusal == SNMPSEC_OUT_OF_MEMORY || refusal < 1 || refusal > 18) { gateway->out_of_memory = true; return; }
     gateway->counts.receivers_refused[refusal]++;
     if (line_has_room(LINE_RECEIVER, now))
-        line("refused %d %s from a receiver, %s (not authenticated)", refusal, snmpsec_error_name(refusal), gateway->receivers[receiver].words);
+        line("refused %d %s from a receiver, %s (not authenticated)", refusal, snmpsec_error_name(refusal),
+             gateway->receivers[receiver].words);
 }
 
-/* A receiver that is off answers by ICMP: that is an error of its socket, and what waits for it is sent again as if nothing had come. What is due by a
- * datagram goes out before the next is taken. */
+/* A receiver that is off answers by ICMP: that is an error of its socket, and what waits for it is sent again as if
+ * nothing had come. What is due by a datagram goes out before the next is taken. */
 void hear_receiver(struct gateway *gateway, size_t receiver) {
     if (receiver >= gateway->receivers_len) return;
     for (int i = 0; i < MOST_AT_ONCE; i++) {
@@ -157,14 +170,15 @@ void hear_receiver(struct gateway *gateway, size_t receiver) {
         if (len < 0 && errno != ECONNREFUSED) return;
         if (len < 0 || !gateway->forward || gateway->out_of_memory) continue;
         take_datagram(gateway, receiver, (size_t)len);
-        send_notifications(gateway);
+        send_notifications(gateway, now_in_milliseconds());
     }
 }
 
 /* ---- what goes to receivers */
 
 /* Sends the message to a receiver, and says so of what it notifies of: `what` it is, or nothing is said. */
-static void send_message(struct gateway *gateway, const snmpsec_forward_info *info, const struct notified *of, uint64_t now, const char *what) {
+static void send_message(struct gateway *gateway, const snmpsec_forward_info *info, const struct notified *of,
+                         uint64_t now, const char *what) {
     size_t len = 0;
     if (snmpsec_forward_message(gateway->forward, message, sizeof message, &len)) return;
     if (!send_connected(gateway->receivers[info->receiver].socket, message, len)) {
@@ -193,20 +207,27 @@ static void take_event(struct gateway *gateway, uint64_t now, snmpsec_forward_ev
     case SNMPSEC_FORWARD_TO_RECEIVER: send_message(gateway, &info, of, now, "sent to"); break;
     case SNMPSEC_FORWARD_UNSENT: say_unsent(gateway, of, info.receiver, now, snmpsec_strerror(why)); break;
     case SNMPSEC_FORWARD_INFORM_BEGINS: informed_waits(info.inform, info.notification); break;
-    case SNMPSEC_FORWARD_INFORM_NO_ROOM: say_unsent(gateway, of, info.receiver, now, "as many Informs wait as may"); break;
+    case SNMPSEC_FORWARD_INFORM_NO_ROOM:
+        say_unsent(gateway, of, info.receiver, now, "as many Informs wait as may");
+        break;
     case SNMPSEC_FORWARD_INFORM_TO_RECEIVER: send_inform(gateway, &info, now); break;
-    case SNMPSEC_FORWARD_INFORM_UNSENT: say_unsent(gateway, told_of(informed_of(info.inform)), info.receiver, now, snmpsec_strerror(why)); break;
+    case SNMPSEC_FORWARD_INFORM_UNSENT:
+        say_unsent(gateway, told_of(informed_of(info.inform)), info.receiver, now, snmpsec_strerror(why));
+        break;
     case SNMPSEC_FORWARD_INFORM_GIVEN_UP: say_given_up(gateway, &info, now); break;
     default: break;
     }
 }
 
-void send_notifications(struct gateway *gateway) {
+void send_notifications(struct gateway *gateway, uint64_t now) {
     snmpsec_forward_event event = SNMPSEC_FORWARD_NOTHING;
     int why = 0;
     if (!gateway->forward || gateway->out_of_memory) return;
-    for (uint64_t now = now_in_milliseconds();;) {
-        if (snmpsec_forward_next(gateway->forward, now, new_random(), new_ask_id(), &event, &why)) { gateway->out_of_memory = true; return; }
+    for (;;) {
+        if (snmpsec_forward_next(gateway->forward, now, new_random(), new_ask_id(), &event, &why)) {
+            gateway->out_of_memory = true;
+            return;
+        }
         if (event == SNMPSEC_FORWARD_NOTHING) return;
         take_event(gateway, now, event, why);
     }

@@ -1,4 +1,5 @@
-/* Who is sent notifications: sockets connected to receivers, what goes to them and comes from them, and what lines say of that. Not proved. */
+/* Who is sent notifications: sockets connected to receivers, what goes to them and comes from them, and what lines say
+ * of that. Not proved. */
 #ifndef RECEIVERS_H
 #define RECEIVERS_H
 
@@ -24,8 +25,8 @@ void say_receivers(snmpsec_gate *gate);
 
 /* Takes what came from a receiver: its engine's Reports, and its answers to Informs. */
 void hear_receiver(struct gateway *gateway, size_t receiver);
-/* Sends what is due to receivers. */
-void send_notifications(struct gateway *gateway);
+/* Sends what is due to receivers by now. */
+void send_notifications(struct gateway *gateway, uint64_t now);
 /* Notifications may be secret: nothing is left of the last datagrams. */
 void wipe_notifications(void);
 

@@ -15,8 +15,15 @@
 #include <sys/socket.h>
 #include <unistd.h>
 
-/* at a wake: of the poll's sockets, and of each socket's datagrams */
-enum { MOST_READY = 64, MOST_AT_ONCE = 64, MOST_PATIENCE = 60000 };
+/* at a wake: all of the poll's sockets, so that what lies in one is read before anything is given up; of a device's
+ * socket more datagrams than it holds, and of each socket where clients ask */
+enum {
+    MOST_READY = MOST_DEVICES + MOST_RECEIVERS + 2 * MOST_LISTENERS + 1,
+    MOST_OF_DEVICE = 1024,
+    MOST_AT_ONCE = 64,
+    MOST_ROUNDS = 16,
+    MOST_PATIENCE = 60000
+};
 
 /* What came, and what goes out: both have communities. */
 static uint8_t datagram[65536], message[SNMPSEC_LARGEST];
@@ -62,7 +69,8 @@ static void log_datagram(struct gateway *gateway, const struct words *words, uin
     text[at++] = '\n';
     if (append(gateway->log, text, at)) return;
     gateway->counts.unlogged++;
-    if (line_has_room(LINE_FILE, now)) line("snmpsec-gate: %s: %s: a datagram isn't logged", words->log, strerror(errno));
+    if (line_has_room(LINE_FILE, now))
+        line("snmpsec-gate: %s: %s: a datagram isn't logged", words->log, strerror(errno));
 }
 
 /* The user whom the datagram names: how many octets. Nobody has shown that it is the sender. */
@@ -85,7 +93,12 @@ static void send_report(struct gateway *gateway, const struct client *client) {
     size_t len = 0;
     if (snmpsec_gate_message(gateway->gate, message, sizeof message, &len)) return;
     gateway->counts.reports++;
-    if (!send_to(gateway->listeners[client->listener], client, message, len)) gateway->counts.unsent++;
+    if (!send_to(&gateway->listeners[client->listener], client, message, len)) gateway->counts.unsent++;
+}
+
+/* Whether only an authentic message is refused so (RFC 3414, section 3.2, steps 7 and 8). */
+static bool is_authentic(int answer) {
+    return answer == SNMPSEC_NOT_IN_WINDOW || answer == SNMPSEC_DECRYPTION_ERROR;
 }
 
 static void take_refused(struct gateway *gateway, uint64_t now, const struct client *client, size_t len, int answer) {
@@ -95,7 +108,7 @@ static void take_refused(struct gateway *gateway, uint64_t now, const struct cli
     /* (by an unknown engine ID each manager begins: RFC 3414, section 4) */
     if (answer != SNMPSEC_UNKNOWN_ENGINE && line_has_room(LINE_REFUSED, now)) {
         snprintf(what, sizeof what, "refused %d %s", answer, snmpsec_error_name(answer));
-        say_client(client, len, what, " (not authenticated)");
+        say_client(client, len, what, is_authentic(answer) ? " (authenticated)" : " (not authenticated)");
     }
     send_report(gateway, client);
 }
@@ -105,8 +118,11 @@ static void note_client(struct gateway *gateway, snmpsec_gate_event event, const
     snmpsec_gate_info info;
     uint8_t user[MOST_USER];
     if (snmpsec_gate_numbers(gateway->gate, &info)) return;
-    if (info.pdu >= SNMPSEC_GET_REQUEST && info.pdu <= SNMPSEC_REPORT_PDU) gateway->counts.messages[info.pdu - SNMPSEC_GET_REQUEST]++;
-    if (event == SNMPSEC_GATE_BEGINS) waiting_begins(info.request, client, user, user_of(len, user), digest_of(datagram, len));
+    if (info.pdu >= SNMPSEC_GET_REQUEST && info.pdu <= SNMPSEC_REPORT_PDU)
+        gateway->counts.messages[info.pdu - SNMPSEC_GET_REQUEST]++;
+    if (event == SNMPSEC_GATE_BEGINS)
+        waiting_begins(info.request, client, user, user_of(len, user),
+                       info.pdu == SNMPSEC_SET_REQUEST ? digest_of(datagram, len) : 0);
     else waiting_joins(info.request);
 }
 
@@ -114,11 +130,13 @@ static void take_client(struct gateway *gateway, const struct words *words, cons
     snmpsec_gate_event event = SNMPSEC_GATE_NOTHING;
     uint64_t now = now_in_milliseconds();
     log_datagram(gateway, words, now, len);
-    int answer = snmpsec_gate_take_client(gateway->gate, now, (const uint8_t *)client, sizeof *client, datagram, len, &event);
+    int answer = snmpsec_gate_take_client(gateway->gate, now, (const uint8_t *)client, sizeof *client, datagram, len,
+                                          &event);
     if (answer) { take_refused(gateway, now, client, len, answer); return; }
     gateway->counts.events[event]++;
     if (event == SNMPSEC_GATE_BEGINS || event == SNMPSEC_GATE_JOINS) note_client(gateway, event, client, len);
-    if (event == SNMPSEC_GATE_NO_ROOM && line_has_room(LINE_DROPPED, now)) say_client(client, len, "no room for a message", "");
+    if (event == SNMPSEC_GATE_NO_ROOM && line_has_room(LINE_DROPPED, now))
+        say_client(client, len, "no room for a message", "");
     if (event == SNMPSEC_GATE_SET_OF_BEFORE && line_has_room(LINE_SET, now))
         say_client(client, len, "a repeated Set", ": its outcome isn't known, and it isn't done again");
 }
@@ -131,49 +149,66 @@ static void say_set(const struct device *device, const struct waiting *request, 
     line("%s by %s at device %s: %s", asked, asker, device->words, how);
 }
 
-static bool is_set(const struct waiting *request) { return request && request->times && request->tag == SNMPSEC_SET_REQUEST; }
+static bool is_set(const struct waiting *request) {
+    return request && request->times && request->tag == SNMPSEC_SET_REQUEST;
+}
 
-static bool is_of_access(uint32_t status) { return status == SNMPSEC_NO_ACCESS || status == SNMPSEC_AUTHORIZATION_ERROR; }
+static bool is_of_access(uint32_t status) {
+    return status == SNMPSEC_NO_ACCESS || status == SNMPSEC_AUTHORIZATION_ERROR;
+}
 
 /* Says an error-status of a device. By tooBig a GetBulk is asked for less, as by any device; and a Set has its line. */
-static void say_status(uint64_t now, const struct device *device, const struct waiting *request, uint32_t status, const char *how) {
+static void say_status(uint64_t now, const struct device *device, const struct waiting *request, uint32_t status,
+                       const char *how) {
     char asker[ASKER_WORDS], asked[ASKED_WORDS];
     bool is_refused_set = is_set(request) && is_of_access(status);
     if (status <= 1 || (is_set(request) && !is_refused_set) || !line_has_room(LINE_STATUS, now)) return;
     asker_words(request, asker);
     asked_words(request, asked);
-    if (is_refused_set) line("device %s refuses a Set, its write-community may not: %s of %s", device->words, asked, asker);
+    if (is_refused_set)
+        line("device %s refuses a Set, its write-community may not: %s of %s", device->words, asked, asker);
     else line("device %s answers %s, to %s of %s", device->words, how, asked, asker);
 }
 
-static void say_answer(uint64_t now, const struct device *device, const struct waiting *request, const struct pdu *pdu) {
+static void say_answer(uint64_t now, const struct device *device, const struct waiting *request,
+                       const struct pdu *pdu) {
     char how[80];
     const char *name = status_name(pdu->status);
-    snprintf(how, sizeof how, "error-status %" PRIu32 " (%s), index %" PRIu32, pdu->status, name ? name : "no such one", pdu->index);
+    snprintf(how, sizeof how, "error-status %" PRIu32 " (%s), index %" PRIu32, pdu->status, name ? name : "no such one",
+             pdu->index);
     if (is_set(request) && line_has_room(LINE_SET, now)) say_set(device, request, how);
     say_status(now, device, request, pdu->status, how);
 }
 
 /* Why an answer doesn't fit what was asked, in words. */
-static void misfit_words(const snmpsec_gate_info *info, const struct waiting *request, const struct pdu *pdu, char *words, size_t most) {
+static void misfit_words(const snmpsec_gate_info *info, const struct waiting *request, const struct pdu *pdu,
+                         char *words, size_t most) {
     const uint8_t *name = NULL, *before = NULL;
     size_t name_len = 0, before_len = 0;
     char shows[ASKED_WORDS], asked[ASKED_WORDS] = "what was asked";
     (void)name_of(pdu->list, pdu->list_len, info->binding, &name, &name_len);
     name_words(name, name_len, shows, sizeof shows);
-    if (request && waiting_asked(request, pdu, info->binding, &before, &before_len)) name_words(before, before_len, asked, sizeof asked);
+    if (request && waiting_asked(request, pdu, info->binding, &before, &before_len))
+        name_words(before, before_len, asked, sizeof asked);
     switch (info->misfit) {
     case SNMPSEC_MISFIT_TOO_FEW: snprintf(words, most, "it has %zu bindings, too few", pdu->names); return;
     case SNMPSEC_MISFIT_TOO_MANY: snprintf(words, most, "it has %zu bindings, too many", pdu->names); return;
-    case SNMPSEC_MISFIT_OTHER_NAME: snprintf(words, most, "binding %" PRIu64 " is %s, which isn't %s", info->binding, shows, asked); return;
-    case SNMPSEC_MISFIT_NOT_AFTER: snprintf(words, most, "binding %" PRIu64 " is %s, which isn't after %s", info->binding, shows, asked); return;
-    case SNMPSEC_MISFIT_NO_VALUE: snprintf(words, most, "binding %" PRIu64 ", %s, has no value that can be read", info->binding, shows); return;
+    case SNMPSEC_MISFIT_OTHER_NAME:
+        snprintf(words, most, "binding %" PRIu64 " is %s, which isn't %s", info->binding, shows, asked);
+        return;
+    case SNMPSEC_MISFIT_NOT_AFTER:
+        snprintf(words, most, "binding %" PRIu64 " is %s, which isn't after %s", info->binding, shows, asked);
+        return;
+    case SNMPSEC_MISFIT_NO_VALUE:
+        snprintf(words, most, "binding %" PRIu64 ", %s, has no value that can be read", info->binding, shows);
+        return;
     default: snprintf(words, most, "binding %" PRIu64 ", %s, has a value behind endOfMibView", info->binding, shows);
     }
 }
 
 /* Says that an answer doesn't fit what was asked. */
-static void say_misfit(uint64_t now, const struct device *device, const snmpsec_gate_info *info, const struct waiting *request, const struct pdu *pdu) {
+static void say_misfit(uint64_t now, const struct device *device, const snmpsec_gate_info *info,
+                       const struct waiting *request, const struct pdu *pdu) {
     char asker[ASKER_WORDS], asked[ASKED_WORDS], why[2 * ASKED_WORDS + 60];
     if (!line_has_room(LINE_MISFIT, now)) return;
     asker_words(request, asker);
@@ -202,19 +237,24 @@ static void take_device(struct gateway *gateway, size_t number, size_t len) {
     snmpsec_gate_event event = SNMPSEC_GATE_NOTHING;
     struct device *device = &gateway->devices[number];
     uint64_t now = now_in_milliseconds();
-    if (snmpsec_gate_take_device(gateway->gate, now, number, datagram, len, &event)) { gateway->out_of_memory = true; return; }
+    if (snmpsec_gate_take_device(gateway->gate, now, number, datagram, len, &event)) {
+        gateway->out_of_memory = true;
+        return;
+    }
     gateway->counts.events[event]++;
     if (event == SNMPSEC_GATE_ANSWERS) { device->counts.answered++; note_answer(gateway, now, device, len); return; }
     bool is_unreadable = event == SNMPSEC_GATE_UNREADABLE;
     *(is_unreadable ? &device->counts.unreadable : &device->counts.not_waited_for) += 1;
     if (line_has_room(LINE_DEVICE, now))
-        line("device %s sends %s", device->words, is_unreadable ? "a datagram that isn't a Response of SNMPv2c" : "an answer for which nothing waits");
+        line("device %s sends %s", device->words, is_unreadable ? "a datagram that isn't a Response of SNMPv2c"
+             : "an answer for which nothing waits");
 }
 
-/* A device that is off answers by ICMP: that is an error of its socket, and the device is asked again as if nothing had come. */
+/* A device that is off answers by ICMP: that is an error of its socket, and the device is asked again as if nothing had
+ * come. */
 static void hear_device(struct gateway *gateway, size_t number) {
     struct device *device = &gateway->devices[number];
-    for (int i = 0; i < MOST_AT_ONCE; i++) {
+    for (int i = 0; i < MOST_OF_DEVICE; i++) {
         ssize_t len = recv(device->socket, datagram, sizeof datagram, 0);
         if (len >= 0) take_device(gateway, number, (size_t)len);
         else if (errno != EAGAIN && errno != EINTR) device->counts.errors++;
@@ -222,21 +262,32 @@ static void hear_device(struct gateway *gateway, size_t number) {
     }
 }
 
-static void hear_clients(struct gateway *gateway, const struct words *words, size_t listener) {
+void say_lost(const struct listener *listener, uint64_t before) {
+    if (listener->lost == before || !line_has_room(LINE_LOST, now_in_milliseconds())) return;
+    line("%s: no room for %" PRIu64 " datagrams, %" PRIu64 " in all", listener->words, listener->lost - before,
+         listener->lost);
+}
+
+static void hear_clients(struct gateway *gateway, const struct words *words, size_t number) {
     struct client client;
+    struct listener *listener = &gateway->listeners[number];
+    uint64_t lost = listener->lost;
     for (int i = 0; i < MOST_AT_ONCE; i++) {
-        ssize_t len = receive_from(gateway->listeners[listener], &client, datagram, sizeof datagram);
-        if (len < 0) return;
-        client.listener = (uint32_t)listener;
+        ssize_t len = receive_from(listener, &client, datagram, sizeof datagram);
+        if (len < 0) break;
+        client.listener = (uint32_t)number;
         take_client(gateway, words, &client, (size_t)len);
     }
+    say_lost(listener, lost);
 }
 
 static void send_client(struct gateway *gateway, size_t len) {
     struct client client;
     size_t client_len = 0;
-    if (snmpsec_gate_client(gateway->gate, (uint8_t *)&client, sizeof client, &client_len) || client_len != sizeof client
-        || client.listener >= gateway->listeners_len || !send_to(gateway->listeners[client.listener], &client, message, len))
+    if (snmpsec_gate_client(gateway->gate, (uint8_t *)&client, sizeof client, &client_len)
+        || client_len != sizeof client
+        || client.listener >= gateway->listeners_len
+        || !send_to(&gateway->listeners[client.listener], &client, message, len))
         gateway->counts.unsent++;
 }
 
@@ -266,7 +317,8 @@ static void take_given_up(struct gateway *gateway, uint64_t now, const snmpsec_g
     } else if (line_has_room(LINE_GIVEN_UP, now)) {
         asker_words(request, asker);
         asked_words(request, asked);
-        line("device %s doesn't answer: %s, %s, asked %" PRIu32 " times", device->words, asker, asked, request ? request->times : 0);
+        line("device %s doesn't answer: %s, %s, asked %" PRIu32 " times", device->words, asker, asked,
+             request ? request->times : 0);
     }
 }
 
@@ -283,7 +335,8 @@ static const char *counted(struct gateway *gateway) {
 }
 
 /* What a Response says, or that it is a Report, for counts and lines. */
-static void note_response(struct gateway *gateway, uint64_t now, const snmpsec_gate_info *info, struct waiting *request) {
+static void note_response(struct gateway *gateway, uint64_t now, const snmpsec_gate_info *info,
+                          struct waiting *request) {
     char asker[ASKER_WORDS], asked[ASKED_WORDS];
     const char *name = info->status < STATUSES ? status_name((uint32_t)info->status) : NULL;
     if (info->is_report) { gateway->counts.request_reports++; return; }
@@ -292,11 +345,13 @@ static void note_response(struct gateway *gateway, uint64_t now, const snmpsec_g
     asker_words(request, asker);
     asked_words(request, asked);
     if (request->is_repeated && !request->rounds && line_has_room(LINE_SET, now))
-        line("a repeated Set by %s has its first answer: error-status %" PRIu64 " (%s), index %" PRIu64, asker, info->status,
+        line("a repeated Set by %s has its first answer: error-status %" PRIu64 " (%s), index %" PRIu64, asker,
+             info->status,
              name ? name : "no such one", info->index);
     if (info->status != GEN_ERR || !info->index || !waiting_used_up(request)) return;
     gateway->counts.rounds_used_up++;
-    if (line_has_room(LINE_ROUNDS, now)) line("%s wants more than %" PRIu32 " rounds: %s", asker, request->rounds, asked);
+    if (line_has_room(LINE_ROUNDS, now))
+        line("%s wants more than %" PRIu32 " rounds: %s", asker, request->rounds, asked);
 }
 
 /* One message of a request is answered, or isn't. */
@@ -328,12 +383,15 @@ static void take_event(struct gateway *gateway, uint64_t now, snmpsec_gate_event
     if (event == SNMPSEC_GATE_TO_CLIENT || event == SNMPSEC_GATE_UNANSWERED) take_end(gateway, now, &info, why);
 }
 
-/* Sends all that is due. */
-static void send_due(struct gateway *gateway) {
+/* Sends all that is due by now. */
+static void send_due(struct gateway *gateway, uint64_t now) {
     snmpsec_gate_event event = SNMPSEC_GATE_NOTHING;
     int why = 0;
-    for (uint64_t now = now_in_milliseconds();;) {
-        if (snmpsec_gate_next(gateway->gate, now, new_random(), new_ask_id(), &event, &why)) { gateway->out_of_memory = true; return; }
+    for (;;) {
+        if (snmpsec_gate_next(gateway->gate, now, new_random(), new_ask_id(), &event, &why)) {
+            gateway->out_of_memory = true;
+            return;
+        }
         if (event == SNMPSEC_GATE_NOTHING) return;
         take_event(gateway, now, event, why);
     }
@@ -359,7 +417,8 @@ static bool hear_signal(struct gateway *gateway, const struct words *words, int 
 }
 
 /* Takes what has come, devices first, since a request whose answer lies in a socket isn't given up. */
-static bool take_ready(struct gateway *gateway, const struct words *words, const struct epoll_event *ready, int len, int signals) {
+static bool take_ready(struct gateway *gateway, const struct words *words, const struct epoll_event *ready, int len,
+                       int signals) {
     for (int source = FROM_DEVICE; source <= FROM_SIGNAL; source++)
         for (int i = 0; i < len; i++) {
             size_t number = ready[i].data.u64 & 0xffffffffu;
@@ -398,15 +457,38 @@ static int begin_signals(struct gateway *gateway) {
     return -1;
 }
 
+static bool have_answers(const struct epoll_event *ready, int len) {
+    for (int i = 0; i < len; i++) {
+        uint64_t source = ready[i].data.u64 >> 32;
+        if (source == FROM_DEVICE || source == FROM_RECEIVER) return true;
+    }
+    return false;
+}
+
+/* Waits for what comes and takes it, until devices and receivers have nothing more. *now is a time after which all that
+ * was there was taken: what is given up by then has no answer in a socket, however long the process was stopped, or 16
+ * rounds weren't enough. Whether it is to end; -1: it can't wait. */
+static int take_all(struct gateway *gateway, const struct words *words, int signals, uint64_t *now) {
+    static struct epoll_event ready[MOST_READY];
+    int len = epoll_wait(gateway->poll, ready, MOST_READY, patience(gateway));
+    for (int round = 0;; round++) {
+        if (len < 0 && errno != EINTR) return -1;
+        if (take_ready(gateway, words, ready, len, signals)) return 1;
+        *now = now_in_milliseconds();
+        len = epoll_wait(gateway->poll, ready, MOST_READY, 0);
+        if (len >= 0 && (round == MOST_ROUNDS || !have_answers(ready, len))) return 0;
+    }
+}
+
 /* What it does until it ends, and with which status. */
 static int serve_on(struct gateway *gateway, const struct words *words, int signals) {
-    struct epoll_event ready[MOST_READY];
-    for (bool ends = false; !ends;) {
-        int len = epoll_wait(gateway->poll, ready, MOST_READY, patience(gateway));
-        if (len < 0 && errno != EINTR) { perror("snmpsec-gate: epoll"); return 1; }
-        ends = take_ready(gateway, words, ready, len, signals);
-        send_due(gateway);
-        send_notifications(gateway);
+    for (int ends = 0; !ends;) {
+        uint64_t now = 0;
+        ends = take_all(gateway, words, signals, &now);
+        if (ends < 0) { perror("snmpsec-gate: epoll"); return 1; }
+        if (!now) now = now_in_milliseconds();
+        send_due(gateway, now);
+        send_notifications(gateway, now);
         /* (what holds of a gateway that found no memory isn't promised) */
         if (gateway->out_of_memory) { fprintf(stderr, "snmpsec-gate: out of memory, it ends\n"); return 1; }
         lines_left_out(now_in_milliseconds());

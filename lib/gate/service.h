@@ -9,8 +9,11 @@ void hold_signals(void);
 /* Eight random octets, and a number that didn't come lately. */
 uint64_t new_random(void);
 uint32_t new_ask_id(void);
-/* A send answers the error of a datagram of before, and then sends nothing: so it is tried twice. Whether it was sent. */
+/* A send answers the error of a datagram of before, and then sends nothing: so it is tried twice. Whether it was
+ * sent. */
 bool send_connected(int socket, const uint8_t *octets, size_t len);
+/* Says how many datagrams a listening socket lost, where it lost more than before. */
+void say_lost(const struct listener *listener, uint64_t before);
 /* 0, or the status to end with. */
 int serve(struct gateway *gateway, const struct words *words);
 

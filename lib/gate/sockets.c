@@ -43,7 +43,8 @@ int address_of(const char *words, struct sockaddr_storage *address, socklen_t *l
 void address_words(const struct sockaddr_storage *address, char *words) {
     char host[ADDRESS_WORDS - 10], port[8];
     socklen_t len = address->ss_family == AF_INET ? sizeof(struct sockaddr_in) : sizeof(struct sockaddr_in6);
-    if (getnameinfo((const struct sockaddr *)address, len, host, sizeof host, port, sizeof port, NI_NUMERICHOST | NI_NUMERICSERV))
+    if (getnameinfo((const struct sockaddr *)address, len, host, sizeof host, port, sizeof port, NI_NUMERICHOST
+                    | NI_NUMERICSERV))
         snprintf(words, ADDRESS_WORDS, "?");
     else
         snprintf(words, ADDRESS_WORDS, address->ss_family == AF_INET ? "%s:%s" : "[%s]:%s", host, port);
@@ -54,7 +55,8 @@ bool are_of_one_host(const struct sockaddr_storage *a, const struct sockaddr_sto
     if (a->ss_family == AF_INET)
         return ((const struct sockaddr_in *)a)->sin_addr.s_addr == ((const struct sockaddr_in *)b)->sin_addr.s_addr;
     const struct sockaddr_in6 *one = (const struct sockaddr_in6 *)a, *other = (const struct sockaddr_in6 *)b;
-    return one->sin6_scope_id == other->sin6_scope_id && !memcmp(&one->sin6_addr, &other->sin6_addr, sizeof one->sin6_addr);
+    return one->sin6_scope_id == other->sin6_scope_id && !memcmp(&one->sin6_addr, &other->sin6_addr,
+        sizeof one->sin6_addr);
 }
 
 static int made_socket(const char *words, int *made, bool listens) {
@@ -66,7 +68,8 @@ static int made_socket(const char *words, int *made, bool listens) {
     if (file < 0) return told(words, strerror(errno));
     bool is_six = address.ss_family == AF_INET6;
     bool is_set = !listens || (!(is_six && setsockopt(file, IPPROTO_IPV6, IPV6_V6ONLY, &on, sizeof on))
-        && !setsockopt(file, is_six ? IPPROTO_IPV6 : IPPROTO_IP, is_six ? IPV6_RECVPKTINFO : IP_PKTINFO, &on, sizeof on));
+        && !setsockopt(file, is_six ? IPPROTO_IPV6 : IPPROTO_IP, is_six ? IPV6_RECVPKTINFO : IP_PKTINFO, &on,
+                       sizeof on));
     if (is_set && !(listens ? bind : connect)(file, (struct sockaddr *)&address, len)) {
         *made = file;
         return 0;
@@ -76,11 +79,29 @@ static int made_socket(const char *words, int *made, bool listens) {
     return told(words, strerror(fault));
 }
 
-int listen_at(const char *words, int *made) { return made_socket(words, made, true); }
+/* Only who administrates the network may have more than net.core.rmem_max. Linux counts twice what is asked for. */
+static int room_of(int file) {
+    int wanted = ROOM_WANTED, got = 0;
+    socklen_t len = sizeof got;
+    if (setsockopt(file, SOL_SOCKET, SO_RCVBUFFORCE, &wanted, sizeof wanted))
+        (void)setsockopt(file, SOL_SOCKET, SO_RCVBUF, &wanted, sizeof wanted);
+    return getsockopt(file, SOL_SOCKET, SO_RCVBUF, &got, &len) ? 0 : got / 2;
+}
+
+int listen_at(const char *words, struct listener *listener) {
+    int on = 1;
+    *listener = (struct listener){0};
+    if (made_socket(words, &listener->socket, true)) return -1;
+    snprintf(listener->words, sizeof listener->words, "%s", words);
+    listener->room = room_of(listener->socket);
+    (void)setsockopt(listener->socket, SOL_SOCKET, SO_RXQ_OVFL, &on, sizeof on);
+    return 0;
+}
+
 int connect_to(const char *words, int *made) { return made_socket(words, made, false); }
 
-/* Where the datagram was sent to. */
-static void note_to(struct msghdr *head, struct client *client) {
+/* Where the datagram was sent to, and how many the system had no room for before it. */
+static void note_parts(struct msghdr *head, struct listener *listener, struct client *client) {
     for (struct cmsghdr *part = CMSG_FIRSTHDR(head); part; part = CMSG_NXTHDR(head, part)) {
         struct in_pktinfo four;
         struct in6_pktinfo six;
@@ -93,6 +114,10 @@ static void note_to(struct msghdr *head, struct client *client) {
             client->to6 = six.ipi6_addr;
             client->interface = six.ipi6_ifindex;
             client->has_to = 1;
+        } else if (part->cmsg_level == SOL_SOCKET && part->cmsg_type == SO_RXQ_OVFL) {
+            uint32_t before = listener->counted;
+            memcpy(&listener->counted, CMSG_DATA(part), sizeof listener->counted);
+            listener->lost += listener->counted - before;
         }
     }
 }
@@ -104,21 +129,23 @@ static bool has_port(const struct client *client) {
 
 union parts {
     struct cmsghdr head;
-    char room[CMSG_SPACE(sizeof(struct in6_pktinfo)) + CMSG_SPACE(sizeof(struct in_pktinfo))];
+    char room[CMSG_SPACE(sizeof(struct in6_pktinfo)) + CMSG_SPACE(sizeof(struct in_pktinfo))
+              + CMSG_SPACE(sizeof(uint32_t))];
 };
 
-ssize_t receive_from(int listener, struct client *client, uint8_t *datagram, size_t most) {
+ssize_t receive_from(struct listener *listener, struct client *client, uint8_t *datagram, size_t most) {
     union parts parts;
     for (;;) {
         memset(client, 0, sizeof *client);
         struct iovec piece = {datagram, most};
-        struct msghdr head = {.msg_name = &client->from, .msg_namelen = sizeof client->from, .msg_iov = &piece, .msg_iovlen = 1,
+        struct msghdr head = {.msg_name = &client->from, .msg_namelen = sizeof client->from, .msg_iov = &piece,
+                              .msg_iovlen = 1,
                               .msg_control = &parts, .msg_controllen = sizeof parts};
-        ssize_t len = recvmsg(listener, &head, 0);
+        ssize_t len = recvmsg(listener->socket, &head, 0);
         if (len < 0 && errno == EINTR) continue;
         if (len < 0) return -1;
         client->from_len = head.msg_namelen;
-        note_to(&head, client);
+        note_parts(&head, listener, client);
         if (has_port(client)) return len;
     }
 }
@@ -143,7 +170,7 @@ static void put_to(struct msghdr *head, const struct client *client) {
     }
 }
 
-bool send_to(int listener, const struct client *client, const uint8_t *datagram, size_t len) {
+bool send_to(const struct listener *listener, const struct client *client, const uint8_t *datagram, size_t len) {
     union parts parts;
     struct sockaddr_storage to = client->from;
     struct iovec piece = {(void *)(uintptr_t)datagram, len};
@@ -154,5 +181,5 @@ bool send_to(int listener, const struct client *client, const uint8_t *datagram,
         head.msg_controllen = sizeof parts;
         put_to(&head, client);
     }
-    return sendmsg(listener, &head, 0) == (ssize_t)len;
+    return sendmsg(listener->socket, &head, 0) == (ssize_t)len;
 }

@@ -3,6 +3,7 @@
 #include "gateway.h"
 #include "lines.h"
 #include "notified.h"
+#include "service.h"
 #include "sockets.h"
 #include <snmpsec.h>
 #include <stdio.h>
@@ -36,23 +37,36 @@ static void say_dropped(const struct device *device, size_t len, snmpsec_forward
     char oid[OID_WORDS];
     oid_words(len, oid);
     switch (event) {
-    case SNMPSEC_FORWARD_UNREADABLE: line("device %s sends a datagram that isn't a message of SNMPv2c", device->words); break;
-    case SNMPSEC_FORWARD_NOT_TRAP: line("device %s sends a message of SNMPv2c that isn't an SNMPv2-Trap", device->words); break;
-    case SNMPSEC_FORWARD_NO_TRAP_OID: line("device %s sends a Trap whose second binding isn't snmpTrapOID.0", device->words); break;
+    case SNMPSEC_FORWARD_UNREADABLE:
+        line("device %s sends a datagram that isn't a message of SNMPv2c", device->words);
+        break;
+    case SNMPSEC_FORWARD_NOT_TRAP:
+        line("device %s sends a message of SNMPv2c that isn't an SNMPv2-Trap", device->words);
+        break;
+    case SNMPSEC_FORWARD_NO_TRAP_OID:
+        line("device %s sends a Trap whose second binding isn't snmpTrapOID.0", device->words);
+        break;
     case SNMPSEC_FORWARD_OTHER_COMMUNITY: line("device %s sends a Trap with another community", device->words); break;
-    case SNMPSEC_FORWARD_FOR_NOBODY: line("device %s notifies of %s: no receiver may be notified of it", device->words, oid); break;
-    case SNMPSEC_FORWARD_NO_ROOM: line("device %s notifies of %s: no room, as many notifications wait as may", device->words, oid); break;
+    case SNMPSEC_FORWARD_FOR_NOBODY:
+        line("device %s notifies of %s: no receiver may be notified of it", device->words, oid);
+        break;
+    case SNMPSEC_FORWARD_NO_ROOM:
+        line("device %s notifies of %s: no room, as many notifications wait as may", device->words, oid);
+        break;
     default: break;
     }
 }
 
 /* Takes the datagram as one of this device: false where it has another community. */
 static bool take_trap(struct gateway *gateway, size_t number, size_t len, snmpsec_forward_event *event) {
-    if (snmpsec_forward_take_trap(gateway->forward, number, datagram, len, event)) { gateway->out_of_memory = true; return true; }
+    if (snmpsec_forward_take_trap(gateway->forward, number, datagram, len, event)) {
+        gateway->out_of_memory = true;
+        return true;
+    }
     return *event != SNMPSEC_FORWARD_OTHER_COMMUNITY;
 }
 
-/* Devices at one address are told apart by their communities. */
+/* Devices at one address are distinguished by their communities. */
 static void take_datagram(struct gateway *gateway, const struct client *from, size_t len) {
     snmpsec_forward_event event = SNMPSEC_FORWARD_NOTHING;
     size_t device = gateway->devices_len;
@@ -78,9 +92,12 @@ static void take_datagram(struct gateway *gateway, const struct client *from, si
 
 void hear_traps(struct gateway *gateway, size_t listener) {
     struct client from;
+    struct listener *at = &gateway->trap_listeners[listener];
+    uint64_t lost = at->lost;
     for (int i = 0; i < MOST_AT_ONCE; i++) {
-        ssize_t len = receive_from(gateway->trap_listeners[listener], &from, datagram, sizeof datagram);
-        if (len < 0) return;
+        ssize_t len = receive_from(at, &from, datagram, sizeof datagram);
+        if (len < 0) break;
         if (gateway->forward && !gateway->out_of_memory) take_datagram(gateway, &from, (size_t)len);
     }
+    say_lost(at, lost);
 }

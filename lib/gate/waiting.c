@@ -53,14 +53,15 @@ uint64_t digest_of(const uint8_t *datagram, size_t len) {
     return digest ? digest : 1;
 }
 
-void waiting_begins(uint64_t number, const struct client *client, const uint8_t *user, size_t user_len, uint64_t digest) {
+void waiting_begins(uint64_t number, const struct client *client, const uint8_t *user, size_t user_len,
+                    uint64_t digest) {
     if (!grow()) return;
     struct waiting *request = place_of(number);
     if (request->messages) free(request->list);
     held += !request->messages;
     memset(request, 0, sizeof *request);
     request->digest = digest;
-    request->is_repeated = is_set_of_before(digest);
+    request->is_repeated = digest && is_set_of_before(digest);
     request->number = number;
     request->messages = 1;
     request->client = *client;
@@ -130,14 +131,18 @@ void waiting_answers(uint64_t number, const struct pdu *pdu, bool is_fit) {
 }
 
 /* (by tooBig a GetBulkRequest goes on, and by noSuchName a walk) */
-bool waiting_used_up(const struct waiting *request) { return request->times && request->is_fit && request->status <= 2; }
+bool waiting_used_up(const struct waiting *request) {
+    return request->times && request->is_fit && request->status <= 2;
+}
 
-bool waiting_asked(const struct waiting *request, const struct pdu *answer, size_t number, const uint8_t **name, size_t *name_len) {
+bool waiting_asked(const struct waiting *request, const struct pdu *answer, size_t number, const uint8_t **name,
+                   size_t *name_len) {
     size_t singles = request->tag == SNMPSEC_GET_BULK_REQUEST ? request->non_repeaters : request->names;
     if (singles > request->names) singles = request->names;
     size_t repeaters = request->names - singles;
     if (!request->list || (number > singles && !repeaters)) return false;
-    if (number > singles + repeaters) return name_of(answer->list, answer->list_len, number - repeaters, name, name_len);
+    if (number > singles + repeaters)
+        return name_of(answer->list, answer->list_len, number - repeaters, name, name_len);
     return name_of(request->list, request->list_len, number, name, name_len);
 }
 

@@ -1,4 +1,5 @@
-/* What lines say of the requests that wait: who asked, and what the device was asked last. Not proved, and nothing is decided by it. */
+/* What lines say of the requests that wait: who asked, and what the device was asked last. Not proved, and nothing is
+ * decided by it. */
 #ifndef WAITING_H
 #define WAITING_H
 
@@ -30,14 +31,17 @@ struct waiting {
     /* the PDU by which the device was asked last, how many names it has, and the front of the first */
     uint8_t tag, name_len, name[MOST_NAME];
     size_t names;
-    /* of a request for values its bindings, in a block of its own, or NULL; and of a GetBulkRequest its non-repeaters */
+    /* of a request for values its bindings, in a block of its own, or NULL; and of a GetBulkRequest its
+     * non-repeaters */
     uint8_t *list;
     size_t list_len;
     uint32_t non_repeaters;
 };
 
-/* A message begins the request of this number, or waits for its answer too. Where there is no memory nothing is kept, and lines say less. */
-void waiting_begins(uint64_t number, const struct client *client, const uint8_t *user, size_t user_len, uint64_t digest);
+/* A message begins the request of this number, or waits for its answer too. The digest is that of a Set's datagram, and
+ * 0 of any other. Where there is no memory nothing is kept, and lines say less. */
+void waiting_begins(uint64_t number, const struct client *client, const uint8_t *user, size_t user_len,
+                    uint64_t digest);
 void waiting_joins(uint64_t number);
 /* What is kept of it, or NULL. */
 struct waiting *waiting_of(uint64_t number);
@@ -47,17 +51,20 @@ void waiting_ends(uint64_t number);
 bool waiting_asks(uint64_t number, const struct pdu *pdu);
 /* Its device answers by this PDU, whose bindings fit what it was asked, or don't. */
 void waiting_answers(uint64_t number, const struct pdu *pdu, bool is_fit);
-/* Whether it ends with genErr because its device was asked as often as it may be: its last answer fits, and isn't the cause. */
+/* Whether it ends with genErr because its device was asked as often as it may be: its last answer fits, and isn't the
+ * cause. */
 bool waiting_used_up(const struct waiting *request);
-/* What the device was asked for the answer's binding of this number, from 1: a name that was asked, or the answer's that stands before it in its
- * column (RFC 3416, section 4.2.3). Whether it is known. */
-bool waiting_asked(const struct waiting *request, const struct pdu *answer, size_t number, const uint8_t **name, size_t *name_len);
+/* What the device was asked for the answer's binding of this number, from 1: a name that was asked, or the answer's
+ * that stands before it in its column (RFC 3416, section 4.2.3). Whether it is known. */
+bool waiting_asked(const struct waiting *request, const struct pdu *answer, size_t number, const uint8_t **name,
+                   size_t *name_len);
 /* Of a datagram: by it a Set that comes again is known for lines. */
 uint64_t digest_of(const uint8_t *datagram, size_t len);
 /* Nothing waits any more. */
 void waiting_clear(void);
 
-/* Who asks, as "user ann from 192.0.2.9:50112", and what the device was asked, as "get 1.3.6.1.2.1.1.5.0 and 2 more". */
+/* Who asks, as "user ann from 192.0.2.9:50112", and what the device was asked, as "get 1.3.6.1.2.1.1.5.0 and 2
+ * more". */
 enum { ASKER_WORDS = 240, ASKED_WORDS = 200 };
 void asker_words(const struct waiting *request, char *words);
 void asked_words(const struct waiting *request, char *words);

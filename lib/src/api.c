@@ -1,4 +1,5 @@
-/* The header's calls over the archive's: names, structs, null pointers, and the stack wiped after each call that sees a key. Not proved. */
+/* The header's calls over the archive's: names, structs, null pointers, and the stack wiped after each call that sees a
+ * key. Not proved. */
 #define _GNU_SOURCE
 #include "snmpsec.h"
 #include "inside.h"
@@ -14,9 +15,10 @@ static uint32_t *room_for_arcs(uint32_t *at, size_t len) { return len ? at : no_
 
 _Static_assert(sizeof(snmpsec_config_place) == 4 * sizeof(size_t), "the numbers of a fault lie one after another");
 
-/* What is told of a configuration that is nested too deep, as the archive tells of a text that isn't TOML. */
+/* What is reported of a configuration that is nested too deep, as the archive tells of a text that isn't TOML. */
 static int told_deep(snmpsec_config_place *place, uint8_t *out, size_t out_len, size_t *written) {
-    static const char text[] = "refused config toml\nnested more than 16 deep: a configuration has rows of keys and values\n";
+    static const char text[] =
+        "refused config toml\nnested more than 16 deep: a configuration has rows of keys and values\n";
     *place = (snmpsec_config_place){.reason = SNMPSEC_NO_TOML};
     *written = sizeof text - 1;
     if (out_len < *written) return SNMPSEC_SHORT_BUFFER;
@@ -24,19 +26,23 @@ static int told_deep(snmpsec_config_place *place, uint8_t *out, size_t out_len, 
     return SNMPSEC_BAD_CONFIGURATION;
 }
 
-int snmpsec_config_fault(const uint8_t *config, size_t config_len, snmpsec_config_place *place, uint8_t *out, size_t out_len, size_t *written) {
+int snmpsec_config_fault(const uint8_t *config, size_t config_len, snmpsec_config_place *place, uint8_t *out,
+                         size_t out_len, size_t *written) {
     if (!place || !written) return SNMPSEC_BAD_ARGUMENT;
     if (snmpsec_inside_is_deep(config, config_len)) return told_deep(place, out, out_len, written);
-    return done_deep(proved_config_fault(in(config, config_len), config_len, (size_t *)place, 4, room(out, out_len), out_len, written));
+    return done_deep(proved_config_fault(in(config, config_len), config_len, (size_t *)place, 4, room(out, out_len),
+                                         out_len, written));
 }
 
-int snmpsec_agent_new(const uint8_t *config, size_t config_len, const uint8_t *engine, size_t engine_len, uint32_t boots, uint64_t started,
+int snmpsec_agent_new(const uint8_t *config, size_t config_len, const uint8_t *engine, size_t engine_len,
+                      uint32_t boots, uint64_t started,
                       snmpsec_agent **out) {
     void *handle = NULL;
     if (!out) return SNMPSEC_BAD_ARGUMENT;
     *out = NULL;
     if (snmpsec_inside_is_deep(config, config_len)) return SNMPSEC_BAD_CONFIGURATION;
-    int answer = done_deep(proved_agent_new(in(config, config_len), config_len, in(engine, engine_len), engine_len, boots, started, &handle));
+    int answer = done_deep(proved_agent_new(in(config, config_len), config_len, in(engine, engine_len), engine_len,
+                                            boots, started, &handle));
     if (!answer) *out = handle;
     return answer;
 }
@@ -62,7 +68,8 @@ int snmpsec_agent_info(snmpsec_agent *agent, snmpsec_info *out) {
 }
 
 int snmpsec_agent_part(snmpsec_agent *agent, snmpsec_part part, uint8_t *out, size_t out_len, size_t *written) {
-    return agent && written ? proved_agent_part(agent, part, room(out, out_len), out_len, written) : SNMPSEC_BAD_ARGUMENT;
+    return agent && written ? proved_agent_part(agent, part, room(out, out_len), out_len, written)
+        : SNMPSEC_BAD_ARGUMENT;
 }
 
 int snmpsec_agent_message(snmpsec_agent *agent, uint8_t *out, size_t out_len, size_t *written) {
@@ -75,8 +82,10 @@ static int told_access(int32_t answer, snmpsec_access *out) {
     return SNMPSEC_OK;
 }
 
-int snmpsec_agent_access(snmpsec_agent *agent, snmpsec_view view, const uint32_t *arcs, size_t arcs_len, snmpsec_access *out) {
-    return agent && out ? told_access(proved_agent_allows(agent, view, name(arcs, arcs_len), arcs_len), out) : SNMPSEC_BAD_ARGUMENT;
+int snmpsec_agent_access(snmpsec_agent *agent, snmpsec_view view, const uint32_t *arcs, size_t arcs_len,
+                         snmpsec_access *out) {
+    return agent && out ? told_access(proved_agent_allows(agent, view, name(arcs, arcs_len), arcs_len), out)
+        : SNMPSEC_BAD_ARGUMENT;
 }
 
 bool snmpsec_agent_allows(snmpsec_agent *agent, snmpsec_view view, const uint32_t *arcs, size_t arcs_len) {
@@ -84,40 +93,52 @@ bool snmpsec_agent_allows(snmpsec_agent *agent, snmpsec_view view, const uint32_
     return snmpsec_agent_access(agent, view, arcs, arcs_len, &access) == SNMPSEC_OK && access == SNMPSEC_ACCESS_ALLOWED;
 }
 
-int snmpsec_agent_next(snmpsec_agent *agent, snmpsec_view view, const uint32_t *arcs, size_t arcs_len, uint32_t *out, size_t out_len,
+int snmpsec_agent_next(snmpsec_agent *agent, snmpsec_view view, const uint32_t *arcs, size_t arcs_len, uint32_t *out,
+                       size_t out_len,
                        size_t *written) {
     if (!agent || !written) return SNMPSEC_BAD_ARGUMENT;
-    return proved_agent_next(agent, view, name(arcs, arcs_len), arcs_len, room_for_arcs(out, out_len), out_len, written);
+    return proved_agent_next(agent, view, name(arcs, arcs_len), arcs_len, room_for_arcs(out, out_len), out_len,
+                             written);
 }
 
-int snmpsec_agent_user_access(snmpsec_agent *agent, snmpsec_octets user, snmpsec_level level, snmpsec_octets context, snmpsec_view view,
+int snmpsec_agent_user_access(snmpsec_agent *agent, snmpsec_octets user, snmpsec_level level, snmpsec_octets context,
+                              snmpsec_view view,
                               const uint32_t *arcs, size_t arcs_len, snmpsec_access *out) {
     if (!agent || !out) return SNMPSEC_BAD_ARGUMENT;
-    return told_access(proved_agent_may(agent, in(user.at, user.len), user.len, level, in(context.at, context.len), context.len, view,
+    return told_access(proved_agent_may(agent, in(user.at, user.len), user.len, level, in(context.at, context.len),
+                                        context.len, view,
                                         name(arcs, arcs_len), arcs_len), out);
 }
 
-bool snmpsec_agent_user_allows(snmpsec_agent *agent, snmpsec_octets user, snmpsec_level level, snmpsec_octets context, snmpsec_view view,
+bool snmpsec_agent_user_allows(snmpsec_agent *agent, snmpsec_octets user, snmpsec_level level, snmpsec_octets context,
+                               snmpsec_view view,
                                const uint32_t *arcs, size_t arcs_len) {
     snmpsec_access access;
-    return snmpsec_agent_user_access(agent, user, level, context, view, arcs, arcs_len, &access) == SNMPSEC_OK && access == SNMPSEC_ACCESS_ALLOWED;
+    return snmpsec_agent_user_access(agent, user, level, context, view, arcs, arcs_len, &access) == SNMPSEC_OK
+        && access == SNMPSEC_ACCESS_ALLOWED;
 }
 
-int snmpsec_agent_respond(snmpsec_agent *agent, uint64_t now, uint32_t error_status, uint32_t error_index, const uint8_t *list, size_t list_len,
+int snmpsec_agent_respond(snmpsec_agent *agent, uint64_t now, uint32_t error_status, uint32_t error_index,
+                          const uint8_t *list, size_t list_len,
                           uint64_t salt) {
-    return agent ? done(proved_agent_respond(agent, now, error_status, error_index, in(list, list_len), list_len, salt)) : SNMPSEC_BAD_ARGUMENT;
+    return agent ? done(proved_agent_respond(agent, now, error_status, error_index, in(list, list_len), list_len, salt))
+        : SNMPSEC_BAD_ARGUMENT;
 }
 
-int snmpsec_agent_respond_within(snmpsec_agent *agent, uint64_t now, uint32_t error_status, uint32_t error_index, const uint8_t *list,
+int snmpsec_agent_respond_within(snmpsec_agent *agent, uint64_t now, uint32_t error_status, uint32_t error_index,
+                                 const uint8_t *list,
                                  size_t list_len, uint64_t salt, uint32_t limit) {
-    return agent ? done(proved_agent_respond_within(agent, now, error_status, error_index, in(list, list_len), list_len, salt, limit))
+    return agent ? done(proved_agent_respond_within(agent, now, error_status, error_index, in(list, list_len), list_len,
+                                                    salt, limit))
                  : SNMPSEC_BAD_ARGUMENT;
 }
 
-int snmpsec_agent_respond_front(snmpsec_agent *agent, uint64_t now, uint32_t error_status, uint32_t error_index, const uint8_t *list,
+int snmpsec_agent_respond_front(snmpsec_agent *agent, uint64_t now, uint32_t error_status, uint32_t error_index,
+                                const uint8_t *list,
                                 size_t list_len, uint64_t salt, uint32_t limit, size_t *count) {
     return agent && count
-               ? done(proved_agent_respond_front(agent, now, error_status, error_index, in(list, list_len), list_len, salt, limit, count))
+               ? done(proved_agent_respond_front(agent, now, error_status, error_index, in(list, list_len), list_len,
+                                                 salt, limit, count))
                : SNMPSEC_BAD_ARGUMENT;
 }
 
@@ -143,7 +164,9 @@ int snmpsec_agent_refuse(snmpsec_agent *agent, uint64_t now, snmpsec_unhandled w
     return agent ? done(proved_agent_refuse(agent, now, why, salt)) : SNMPSEC_BAD_ARGUMENT;
 }
 
-int snmpsec_agent_silent_drop(snmpsec_agent *agent) { return agent ? proved_agent_silent_drop(agent) : SNMPSEC_BAD_ARGUMENT; }
+int snmpsec_agent_silent_drop(snmpsec_agent *agent) {
+    return agent ? proved_agent_silent_drop(agent) : SNMPSEC_BAD_ARGUMENT;
+}
 
 void snmpsec_kept_free(snmpsec_kept *kept) {
     if (kept) snmpsec_inside_free_handle(kept, proved_kept_clear);
@@ -181,22 +204,27 @@ int snmpsec_kept_max_size(snmpsec_kept *kept, uint32_t *out) {
     return kept && out ? told_size(proved_kept_max_size(kept), out) : SNMPSEC_BAD_ARGUMENT;
 }
 
-int snmpsec_kept_respond(snmpsec_kept *kept, snmpsec_agent *agent, uint64_t now, uint32_t error_status, uint32_t error_index, const uint8_t *list,
+int snmpsec_kept_respond(snmpsec_kept *kept, snmpsec_agent *agent, uint64_t now, uint32_t error_status,
+                         uint32_t error_index, const uint8_t *list,
                          size_t list_len, uint64_t salt) {
     if (!kept || !agent) return SNMPSEC_BAD_ARGUMENT;
     return done(proved_kept_respond(agent, kept, now, error_status, error_index, in(list, list_len), list_len, salt));
 }
 
-int snmpsec_kept_respond_within(snmpsec_kept *kept, snmpsec_agent *agent, uint64_t now, uint32_t error_status, uint32_t error_index,
+int snmpsec_kept_respond_within(snmpsec_kept *kept, snmpsec_agent *agent, uint64_t now, uint32_t error_status,
+                                uint32_t error_index,
                                 const uint8_t *list, size_t list_len, uint64_t salt, uint32_t limit) {
     if (!kept || !agent) return SNMPSEC_BAD_ARGUMENT;
-    return done(proved_kept_respond_within(agent, kept, now, error_status, error_index, in(list, list_len), list_len, salt, limit));
+    return done(proved_kept_respond_within(agent, kept, now, error_status, error_index, in(list, list_len), list_len,
+                                           salt, limit));
 }
 
-int snmpsec_kept_respond_front(snmpsec_kept *kept, snmpsec_agent *agent, uint64_t now, uint32_t error_status, uint32_t error_index,
+int snmpsec_kept_respond_front(snmpsec_kept *kept, snmpsec_agent *agent, uint64_t now, uint32_t error_status,
+                               uint32_t error_index,
                                const uint8_t *list, size_t list_len, uint64_t salt, uint32_t limit, size_t *count) {
     if (!kept || !agent || !count) return SNMPSEC_BAD_ARGUMENT;
-    return done(proved_kept_respond_front(agent, kept, now, error_status, error_index, in(list, list_len), list_len, salt, limit, count));
+    return done(proved_kept_respond_front(agent, kept, now, error_status, error_index, in(list, list_len), list_len,
+                                          salt, limit, count));
 }
 
 int snmpsec_status_of(snmpsec_access access, snmpsec_pdu pdu, snmpsec_status *out) {
@@ -209,9 +237,11 @@ int snmpsec_status_of(snmpsec_access access, snmpsec_pdu pdu, snmpsec_status *ou
 
 int snmpsec_agent_notify(snmpsec_agent *agent, uint64_t now, const snmpsec_notice *n) {
     if (!agent || !n) return SNMPSEC_BAD_ARGUMENT;
-    return done(proved_agent_notify(agent, now, n->message_id, in(n->user.at, n->user.len), n->user.len, n->level, n->request_id,
+    return done(proved_agent_notify(agent, now, n->message_id, in(n->user.at, n->user.len), n->user.len, n->level,
+                                    n->request_id,
                                     in(n->context_engine.at, n->context_engine.len), n->context_engine.len,
-                                    in(n->context_name.at, n->context_name.len), n->context_name.len, in(n->list.at, n->list.len), n->list.len,
+                                    in(n->context_name.at, n->context_name.len), n->context_name.len,
+                                    in(n->list.at, n->list.len), n->list.len,
                                     n->salt));
 }
 
@@ -232,8 +262,8 @@ int snmpsec_agent_counts(snmpsec_agent *agent, snmpsec_counts *out) {
     return SNMPSEC_OK;
 }
 
-/* The archive's manager has one message: a request, or the saved text. A request that was there when the clocks were saved is kept beside it,
- * so that it may still be fetched. */
+/* The archive's manager has one message: a request, or the saved text. A request that was there when the clocks were
+ * saved is kept beside it, so that it may still be fetched. */
 struct snmpsec_manager {
     void *held;
     /* the held message is a saved text, and in its place stands this one, or none where it is NULL */
@@ -249,14 +279,16 @@ static void forget_kept(snmpsec_manager *manager) {
     manager->is_saved = false;
 }
 
-int snmpsec_manager_new(const uint8_t *config, size_t config_len, const uint8_t *clocks, size_t clocks_len, uint64_t now, snmpsec_manager **out) {
+int snmpsec_manager_new(const uint8_t *config, size_t config_len, const uint8_t *clocks, size_t clocks_len,
+                        uint64_t now, snmpsec_manager **out) {
     if (!out) return SNMPSEC_BAD_ARGUMENT;
     *out = NULL;
     if (snmpsec_inside_is_deep(config, config_len)) return SNMPSEC_BAD_CONFIGURATION;
     snmpsec_manager *manager = snmpsec_inside_block(sizeof *manager);
     if (!manager) return SNMPSEC_OUT_OF_MEMORY;
     *manager = (snmpsec_manager){0};
-    int answer = done_deep(proved_manager_new(in(config, config_len), config_len, in(clocks, clocks_len), clocks_len, now, &manager->held));
+    int answer = done_deep(proved_manager_new(in(config, config_len), config_len, in(clocks, clocks_len), clocks_len,
+                                              now, &manager->held));
     if (!answer) *out = manager;
     else snmpsec_inside_free_block(manager);
     return answer;
@@ -280,7 +312,8 @@ int snmpsec_manager_info(snmpsec_manager *manager, snmpsec_info *out) {
 }
 
 int snmpsec_manager_part(snmpsec_manager *manager, snmpsec_part part, uint8_t *out, size_t out_len, size_t *written) {
-    return manager && written ? proved_manager_part(manager->held, part, room(out, out_len), out_len, written) : SNMPSEC_BAD_ARGUMENT;
+    return manager && written ? proved_manager_part(manager->held, part, room(out, out_len), out_len, written)
+        : SNMPSEC_BAD_ARGUMENT;
 }
 
 static int kept_message(const snmpsec_manager *manager, uint8_t *out, size_t out_len, size_t *written) {
@@ -318,7 +351,8 @@ int snmpsec_manager_report(snmpsec_manager *manager, snmpsec_report *out) {
     if (!manager || !out) return SNMPSEC_BAD_ARGUMENT;
     int32_t answer = proved_manager_report(manager->held, n, NUMBERS);
     if (answer) return answer < 0 ? answer : SNMPSEC_NOTHING_TAKEN;
-    *out = (snmpsec_report){.counter = (int)n[COUNTER], .value = n[VALUE] < 0 ? 0 : (uint32_t)n[VALUE], .has_value = n[VALUE] >= 0,
+    *out = (snmpsec_report){.counter = (int)n[COUNTER], .value = n[VALUE] < 0 ? 0 : (uint32_t)n[VALUE],
+                            .has_value = n[VALUE] >= 0,
                             .is_authenticated = n[AUTHENTICATED]};
     return SNMPSEC_OK;
 }
@@ -334,24 +368,32 @@ static int written_request(snmpsec_manager *manager, int32_t answer) {
 }
 
 int snmpsec_manager_discover(snmpsec_manager *manager, uint32_t message_id) {
-    return manager ? written_request(manager, proved_manager_discover(manager->held, message_id)) : SNMPSEC_BAD_ARGUMENT;
+    return manager ? written_request(manager, proved_manager_discover(manager->held, message_id))
+        : SNMPSEC_BAD_ARGUMENT;
 }
 
 int snmpsec_manager_request(snmpsec_manager *manager, uint64_t now, const snmpsec_request *r) {
     if (!manager || !r) return SNMPSEC_BAD_ARGUMENT;
     return written_request(
-        manager, proved_manager_request(manager->held, now, r->message_id, in(r->engine.at, r->engine.len), r->engine.len,
-                                        in(r->user.at, r->user.len), r->user.len, r->level, in(r->context_engine.at, r->context_engine.len),
-                                        r->context_engine.len, in(r->context_name.at, r->context_name.len), r->context_name.len, r->pdu,
-                                        r->request_id, r->error_status, r->error_index, in(r->list.at, r->list.len), r->list.len, r->salt));
+        manager, proved_manager_request(manager->held, now, r->message_id, in(r->engine.at, r->engine.len),
+                                        r->engine.len,
+                                        in(r->user.at, r->user.len), r->user.len, r->level,
+                                        in(r->context_engine.at, r->context_engine.len),
+                                        r->context_engine.len, in(r->context_name.at, r->context_name.len),
+                                        r->context_name.len, r->pdu,
+                                        r->request_id, r->error_status, r->error_index, in(r->list.at, r->list.len),
+                                        r->list.len, r->salt));
 }
 
 int snmpsec_manager_ask(snmpsec_manager *manager, uint64_t now, const snmpsec_request *r, uint64_t *token) {
     if (!manager || !r || !token) return SNMPSEC_BAD_ARGUMENT;
     return written_request(
-        manager, proved_manager_ask(manager->held, now, r->message_id, in(r->engine.at, r->engine.len), r->engine.len, in(r->user.at, r->user.len),
-                                    r->user.len, r->level, in(r->context_engine.at, r->context_engine.len), r->context_engine.len,
-                                    in(r->context_name.at, r->context_name.len), r->context_name.len, r->pdu, r->request_id, r->error_status,
+        manager, proved_manager_ask(manager->held, now, r->message_id, in(r->engine.at, r->engine.len), r->engine.len,
+                                    in(r->user.at, r->user.len),
+                                    r->user.len, r->level, in(r->context_engine.at, r->context_engine.len),
+                                    r->context_engine.len,
+                                    in(r->context_name.at, r->context_name.len), r->context_name.len, r->pdu,
+                                    r->request_id, r->error_status,
                                     r->error_index, in(r->list.at, r->list.len), r->list.len, r->salt, token));
 }
 
@@ -386,14 +428,16 @@ int snmpsec_device_begin(snmpsec_device *device, snmpsec_level level, snmpsec_kn
     return SNMPSEC_OK;
 }
 
-int snmpsec_device_hear(snmpsec_device *device, const snmpsec_answered *answered, bool holds_clock, snmpsec_step *step) {
+int snmpsec_device_hear(snmpsec_device *device, const snmpsec_answered *answered, bool holds_clock,
+                        snmpsec_step *step) {
     enum { REFUSED = 10 };
     if (!device || !answered || !step) return SNMPSEC_BAD_ARGUMENT;
     if (answered->kind == SNMPSEC_REPLY_OTHER) {
         *step = SNMPSEC_WAIT;
         return SNMPSEC_OK;
     }
-    int32_t next = proved_device_hear(device->level, answered->kind, (uint32_t)answered->counter, answered->is_authentic, holds_clock,
+    int32_t next = proved_device_hear(device->level, answered->kind, (uint32_t)answered->counter,
+                                      answered->is_authentic, holds_clock,
                                       &device->sent, &device->again);
     if (next < 0) return next;
     if (answered->kind == SNMPSEC_REPLY_REPORT && (next == SNMPSEC_WAIT || next >= REFUSED)) {
@@ -432,14 +476,17 @@ int snmpsec_manager_save(snmpsec_manager *manager, uint8_t *out, size_t out_len,
 }
 
 int snmpsec_manager_clock(snmpsec_manager *manager, const uint8_t *engine, size_t engine_len, snmpsec_clock *out) {
-    return manager && out ? proved_manager_pair(manager->held, in(engine, engine_len), engine_len, &out->boots, &out->time) : SNMPSEC_BAD_ARGUMENT;
+    return manager && out ? proved_manager_pair(manager->held, in(engine, engine_len), engine_len, &out->boots,
+                                                &out->time) : SNMPSEC_BAD_ARGUMENT;
 }
 
 int snmpsec_manager_seal(snmpsec_manager *manager, const snmpsec_sealing *s) {
     if (!manager || !s) return SNMPSEC_BAD_ARGUMENT;
     return written_request(
-        manager, proved_manager_seal(manager->held, s->message_id, s->max_size, s->is_reportable, in(s->engine.at, s->engine.len), s->engine.len,
-                                     s->boots, s->time, in(s->user.at, s->user.len), s->user.len, s->level, in(s->scoped.at, s->scoped.len),
+        manager, proved_manager_seal(manager->held, s->message_id, s->max_size, s->is_reportable,
+                                     in(s->engine.at, s->engine.len), s->engine.len,
+                                     s->boots, s->time, in(s->user.at, s->user.len), s->user.len, s->level,
+                                     in(s->scoped.at, s->scoped.len),
                                      s->scoped.len, s->salt));
 }
 
@@ -457,16 +504,20 @@ int snmpsec_binding_read(const uint8_t *list, size_t list_len, size_t *at, snmps
     return SNMPSEC_OK;
 }
 
-int snmpsec_binding_write(const uint32_t *arcs, size_t arcs_len, uint8_t tag, const uint8_t *content, size_t content_len, uint8_t *out,
+int snmpsec_binding_write(const uint32_t *arcs, size_t arcs_len, uint8_t tag, const uint8_t *content,
+                          size_t content_len, uint8_t *out,
                           size_t out_len, size_t *written) {
     if (!written) return SNMPSEC_BAD_ARGUMENT;
-    return proved_binding_write(name(arcs, arcs_len), arcs_len, tag, in(content, content_len), content_len, room(out, out_len), out_len, written);
+    return proved_binding_write(name(arcs, arcs_len), arcs_len, tag, in(content, content_len), content_len,
+                                room(out, out_len), out_len, written);
 }
 
 int snmpsec_scoped_write(const snmpsec_scoped *s, uint8_t *out, size_t out_len, size_t *written) {
     if (!s || !written) return SNMPSEC_BAD_ARGUMENT;
-    return proved_scoped_write(in(s->context_engine.at, s->context_engine.len), s->context_engine.len, in(s->context_name.at, s->context_name.len),
-                               s->context_name.len, s->pdu, s->request_id, s->error_status, s->error_index, in(s->list.at, s->list.len),
+    return proved_scoped_write(in(s->context_engine.at, s->context_engine.len), s->context_engine.len,
+                               in(s->context_name.at, s->context_name.len),
+                               s->context_name.len, s->pdu, s->request_id, s->error_status, s->error_index,
+                               in(s->list.at, s->list.len),
                                s->list.len, room(out, out_len), out_len, written);
 }
 
@@ -474,33 +525,43 @@ bool snmpsec_value_is(uint8_t tag, const uint8_t *content, size_t content_len) {
     return proved_value_is(tag, in(content, content_len), content_len) == 1;
 }
 
-int snmpsec_password_key(snmpsec_protocol protocol, const uint8_t *password, size_t password_len, uint8_t *out, size_t out_len, size_t *written) {
-    return written ? done(proved_password_key(protocol, in(password, password_len), password_len, room(out, out_len), out_len, written))
+int snmpsec_password_key(snmpsec_protocol protocol, const uint8_t *password, size_t password_len, uint8_t *out,
+                         size_t out_len, size_t *written) {
+    return written ? done(proved_password_key(protocol, in(password, password_len), password_len, room(out, out_len),
+                                              out_len, written))
                    : SNMPSEC_BAD_ARGUMENT;
 }
 
-int snmpsec_localise(snmpsec_protocol protocol, const uint8_t *key, size_t key_len, const uint8_t *engine, size_t engine_len, uint8_t *out,
+int snmpsec_localise(snmpsec_protocol protocol, const uint8_t *key, size_t key_len, const uint8_t *engine,
+                     size_t engine_len, uint8_t *out,
                      size_t out_len, size_t *written) {
-    return written ? done(proved_localise(protocol, in(key, key_len), key_len, in(engine, engine_len), engine_len, room(out, out_len), out_len,
+    return written ? done(proved_localise(protocol, in(key, key_len), key_len, in(engine, engine_len), engine_len,
+                                          room(out, out_len), out_len,
                                           written))
                    : SNMPSEC_BAD_ARGUMENT;
 }
 
-int snmpsec_mac(snmpsec_protocol protocol, const uint8_t *key, size_t key_len, const uint8_t *front, size_t front_len, size_t zeros,
+int snmpsec_mac(snmpsec_protocol protocol, const uint8_t *key, size_t key_len, const uint8_t *front, size_t front_len,
+                size_t zeros,
                 const uint8_t *back, size_t back_len, uint8_t *out, size_t out_len, size_t *written) {
-    return written ? done(proved_mac(protocol, in(key, key_len), key_len, in(front, front_len), front_len, zeros, in(back, back_len), back_len,
+    return written ? done(proved_mac(protocol, in(key, key_len), key_len, in(front, front_len), front_len, zeros,
+                                     in(back, back_len), back_len,
                                      room(out, out_len), out_len, written))
                    : SNMPSEC_BAD_ARGUMENT;
 }
 
-int snmpsec_seal(const uint8_t *key, size_t key_len, uint32_t boots, uint32_t time, const uint8_t *salt, size_t salt_len, uint8_t *text,
+int snmpsec_seal(const uint8_t *key, size_t key_len, uint32_t boots, uint32_t time, const uint8_t *salt,
+                 size_t salt_len, uint8_t *text,
                  size_t text_len) {
-    return done(proved_seal(in(key, key_len), key_len, boots, time, in(salt, salt_len), salt_len, room(text, text_len), text_len));
+    return done(proved_seal(in(key, key_len), key_len, boots, time, in(salt, salt_len), salt_len, room(text, text_len),
+                            text_len));
 }
 
-int snmpsec_open(const uint8_t *key, size_t key_len, uint32_t boots, uint32_t time, const uint8_t *salt, size_t salt_len, uint8_t *text,
+int snmpsec_open(const uint8_t *key, size_t key_len, uint32_t boots, uint32_t time, const uint8_t *salt,
+                 size_t salt_len, uint8_t *text,
                  size_t text_len) {
-    return done(proved_open(in(key, key_len), key_len, boots, time, in(salt, salt_len), salt_len, room(text, text_len), text_len));
+    return done(proved_open(in(key, key_len), key_len, boots, time, in(salt, salt_len), salt_len, room(text, text_len),
+                            text_len));
 }
 
 void snmpsec_wipe(void *octets, size_t octets_len) { snmpsec_inside_wipe(octets, octets_len); }

@@ -5,7 +5,8 @@
 #include "proved.h"
 #include "slices.h"
 
-int snmpsec_forward_new(const uint8_t *config, size_t config_len, uint32_t boots, uint64_t started, snmpsec_forward **out) {
+int snmpsec_forward_new(const uint8_t *config, size_t config_len, uint32_t boots, uint64_t started,
+                        snmpsec_forward **out) {
     void *handle = NULL;
     if (!out) return SNMPSEC_BAD_ARGUMENT;
     *out = NULL;
@@ -34,28 +35,36 @@ static int reason_in(int32_t answer) {
     return answer > SNMPSEC_FORWARD_UNSENT && answer < SNMPSEC_FORWARD_NO_ANSWER ? answer - SNMPSEC_FORWARD_UNSENT : 0;
 }
 
-int snmpsec_forward_take_trap(snmpsec_forward *forward, size_t device, const uint8_t *datagram, size_t datagram_len, snmpsec_forward_event *event) {
+int snmpsec_forward_take_trap(snmpsec_forward *forward, size_t device, const uint8_t *datagram, size_t datagram_len,
+                              snmpsec_forward_event *event) {
     if (!forward || !event) return SNMPSEC_BAD_ARGUMENT;
-    return told_event(done_deep(proved_forward_take_trap(forward, device, in(datagram, datagram_len), datagram_len)), event);
+    return told_event(done_deep(proved_forward_take_trap(forward, device, in(datagram, datagram_len), datagram_len)),
+                      event);
 }
 
-int snmpsec_forward_take_receiver(snmpsec_forward *forward, uint64_t now, size_t receiver, const uint8_t *datagram, size_t datagram_len,
+int snmpsec_forward_take_receiver(snmpsec_forward *forward, uint64_t now, size_t receiver, const uint8_t *datagram,
+                                  size_t datagram_len,
                                   snmpsec_forward_event *event) {
     if (!forward || !event) return SNMPSEC_BAD_ARGUMENT;
-    return told_event(done_deep(proved_forward_take_receiver(forward, now, receiver, in(datagram, datagram_len), datagram_len)), event);
+    return told_event(done_deep(proved_forward_take_receiver(forward, now, receiver, in(datagram, datagram_len),
+        datagram_len)), event);
 }
 
-int snmpsec_forward_next(snmpsec_forward *forward, uint64_t now, uint64_t salt, uint32_t ask_id, snmpsec_forward_event *event, int *why) {
+int snmpsec_forward_next(snmpsec_forward *forward, uint64_t now, uint64_t salt, uint32_t ask_id,
+                         snmpsec_forward_event *event, int *why) {
     if (!forward || !event || !why) return SNMPSEC_BAD_ARGUMENT;
     int32_t answer = done_deep(proved_forward_next(forward, now, salt, ask_id));
     *why = reason_in(answer);
     return told_event(answer - *why, event);
 }
 
-int snmpsec_forward_due(snmpsec_forward *forward, uint64_t *at) { return forward && at ? proved_forward_due(forward, at) : SNMPSEC_BAD_ARGUMENT; }
+int snmpsec_forward_due(snmpsec_forward *forward, uint64_t *at) {
+    return forward && at ? proved_forward_due(forward, at) : SNMPSEC_BAD_ARGUMENT;
+}
 
 int snmpsec_forward_message(snmpsec_forward *forward, uint8_t *out, size_t out_len, size_t *written) {
-    return forward && written ? proved_forward_message(forward, room(out, out_len), out_len, written) : SNMPSEC_BAD_ARGUMENT;
+    return forward && written ? proved_forward_message(forward, room(out, out_len), out_len, written)
+        : SNMPSEC_BAD_ARGUMENT;
 }
 
 enum { NUMBERS = sizeof(snmpsec_forward_info) / sizeof(uint64_t) };

@@ -7,7 +7,8 @@
 #include <string.h>
 
 int snmpsec_gate_fault(const uint8_t *config, size_t config_len, uint8_t *out, size_t out_len, size_t *written) {
-    static const char deep[] = "refused config nesting\nnested more than 16 deep: a configuration has rows of keys and values\n";
+    static const char deep[] =
+        "refused config nesting\nnested more than 16 deep: a configuration has rows of keys and values\n";
     if (!written) return SNMPSEC_BAD_ARGUMENT;
     if (!snmpsec_inside_is_deep(config, config_len))
         return done_deep(proved_gate_fault(in(config, config_len), config_len, room(out, out_len), out_len, written));
@@ -43,8 +44,10 @@ void snmpsec_gate_free(snmpsec_gate *gate) {
     snmpsec_inside_wipe_deep_stack();
 }
 
-int snmpsec_gate_setting(snmpsec_gate *gate, snmpsec_gate_text text, size_t position, uint8_t *out, size_t out_len, size_t *written) {
-    return gate && written ? proved_gate_setting(gate, text, position, room(out, out_len), out_len, written) : SNMPSEC_BAD_ARGUMENT;
+int snmpsec_gate_setting(snmpsec_gate *gate, snmpsec_gate_text text, size_t position, uint8_t *out, size_t out_len,
+                         size_t *written) {
+    return gate && written ? proved_gate_setting(gate, text, position, room(out, out_len), out_len, written)
+        : SNMPSEC_BAD_ARGUMENT;
 }
 
 /* An event is SNMPSEC_GATE_NOTHING or above the refusals. */
@@ -54,26 +57,33 @@ static int told_event(int32_t answer, snmpsec_gate_event *event) {
     return SNMPSEC_OK;
 }
 
-int snmpsec_gate_take_client(snmpsec_gate *gate, uint64_t now, const uint8_t *client, size_t client_len, const uint8_t *datagram,
+int snmpsec_gate_take_client(snmpsec_gate *gate, uint64_t now, const uint8_t *client, size_t client_len,
+                             const uint8_t *datagram,
                              size_t datagram_len, snmpsec_gate_event *event) {
     if (!gate || !event) return SNMPSEC_BAD_ARGUMENT;
-    return told_event(done_deep(proved_gate_take_client(gate, now, in(client, client_len), client_len, in(datagram, datagram_len), datagram_len)), event);
+    return told_event(done_deep(proved_gate_take_client(gate, now, in(client, client_len), client_len,
+                                                        in(datagram, datagram_len), datagram_len)), event);
 }
 
-int snmpsec_gate_take_device(snmpsec_gate *gate, uint64_t now, size_t device, const uint8_t *datagram, size_t datagram_len,
+int snmpsec_gate_take_device(snmpsec_gate *gate, uint64_t now, size_t device, const uint8_t *datagram,
+                             size_t datagram_len,
                              snmpsec_gate_event *event) {
     if (!gate || !event) return SNMPSEC_BAD_ARGUMENT;
-    return told_event(done_deep(proved_gate_take_device(gate, now, device, in(datagram, datagram_len), datagram_len)), event);
+    return told_event(done_deep(proved_gate_take_device(gate, now, device, in(datagram, datagram_len), datagram_len)),
+                      event);
 }
 
-int snmpsec_gate_next(snmpsec_gate *gate, uint64_t now, uint64_t salt, uint32_t ask_id, snmpsec_gate_event *event, int *why) {
+int snmpsec_gate_next(snmpsec_gate *gate, uint64_t now, uint64_t salt, uint32_t ask_id, snmpsec_gate_event *event,
+                      int *why) {
     if (!gate || !event || !why) return SNMPSEC_BAD_ARGUMENT;
     int answer = done_deep(proved_gate_next(gate, now, salt, ask_id));
     *why = answer > SNMPSEC_GATE_UNANSWERED ? answer - SNMPSEC_GATE_UNANSWERED : 0;
     return told_event(answer, event);
 }
 
-int snmpsec_gate_due(snmpsec_gate *gate, uint64_t *at) { return gate && at ? proved_gate_due(gate, at) : SNMPSEC_BAD_ARGUMENT; }
+int snmpsec_gate_due(snmpsec_gate *gate, uint64_t *at) {
+    return gate && at ? proved_gate_due(gate, at) : SNMPSEC_BAD_ARGUMENT;
+}
 
 int snmpsec_gate_message(snmpsec_gate *gate, uint8_t *out, size_t out_len, size_t *written) {
     return gate && written ? proved_gate_message(gate, room(out, out_len), out_len, written) : SNMPSEC_BAD_ARGUMENT;
@@ -107,7 +117,8 @@ int snmpsec_gate_counts(snmpsec_gate *gate, snmpsec_counts *out) {
     return SNMPSEC_OK;
 }
 
-int snmpsec_gate_may_notify(snmpsec_gate *gate, size_t receiver, size_t device, const uint32_t *arcs, size_t arcs_len, snmpsec_access *out) {
+int snmpsec_gate_may_notify(snmpsec_gate *gate, size_t receiver, size_t device, const uint32_t *arcs, size_t arcs_len,
+                            snmpsec_access *out) {
     static const uint32_t no_arcs[4];
     if (!gate || !out) return SNMPSEC_BAD_ARGUMENT;
     int answer = proved_gate_may_notify(gate, receiver, device, arcs_len ? arcs : no_arcs, arcs_len);
@@ -117,5 +128,6 @@ int snmpsec_gate_may_notify(snmpsec_gate *gate, size_t receiver, size_t device, 
 }
 
 int snmpsec_datagram_user(const uint8_t *datagram, size_t datagram_len, uint8_t *out, size_t out_len, size_t *written) {
-    return written ? proved_datagram_user(in(datagram, datagram_len), datagram_len, room(out, out_len), out_len, written) : SNMPSEC_BAD_ARGUMENT;
+    return written ? proved_datagram_user(in(datagram, datagram_len), datagram_len, room(out, out_len), out_len,
+                                          written) : SNMPSEC_BAD_ARGUMENT;
 }

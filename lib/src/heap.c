@@ -1,8 +1,10 @@
-/* The heap that the archive calls: the C library's, with each block wiped before it is given back. And the freeing of handles. Not proved.
+/* The heap that the archive calls: the C library's, with each block wiped before it is given back. And the freeing of
+ * handles. Not proved.
  *
- * Keys and passwords lie in these blocks. A block never grows by realloc, which could leave a copy behind: it grows in the room that it was
- * given, or its octets go to a new one, which has room to grow again. With SNMPSEC_SECURE_HEAP, its size in octets, the blocks are of OpenSSL's secure heap, which is locked in memory and left out of
- * cores; where that can't be had there is no memory. */
+ * Keys and passwords lie in these blocks. A block never grows by realloc, which could leave a copy behind: it grows in
+ * the room that it was given, or its octets go to a new one, which has room to grow again. With SNMPSEC_SECURE_HEAP,
+ * its size in octets, the blocks are of OpenSSL's secure heap, which is locked in memory and left out of cores; where
+ * that can't be had there is no memory. */
 #define _GNU_SOURCE
 #include "inside.h"
 #include <stdlib.h>
@@ -29,15 +31,15 @@ static void freed(void *block) { free(block); }
 /* what a growth gives, in two registers */
 struct tried { unsigned long ok; void *block; };
 
-/* A block is aligned to so many octets, as malloc's is. The handles want no more: crates/snmp_c has the alignment of their types.
- * A request for a greater one gets no block. */
+/* A block is aligned to so many octets, as malloc's is. The handles want no more: crates/snmp_c has the alignment of
+ * their types. A request for a greater one gets no block. */
 enum { ALIGNED = 16 };
 _Static_assert(_Alignof(max_align_t) >= ALIGNED, "malloc aligns its blocks to 16 octets");
 
 static char nothing[ALIGNED] __attribute__((aligned(16)));
 
-/* While a handle is emptied, blocks come from this room: the empty handle is made in it, so that freeing wants no memory and leaves no
- * block. It is NULL at other times. An empty table of users takes some 2,600 octets. */
+/* While a handle is emptied, blocks come from this room: the empty handle is made in it, so that freeing wants no
+ * memory and leaves no block. It is NULL at other times. An empty table of users takes some 2,600 octets. */
 enum { ROOM = 4096, LARGE_ROOM = 2 * ROOM };
 static _Thread_local char *room;
 static _Thread_local size_t room_size, room_used;
@@ -51,11 +53,13 @@ static void *from_room(size_t size) {
     return room + begin;
 }
 
-/* Before each block stand how many of its octets were ever asked for, and how many it has, a multiple of 16. It is aligned to 16. */
+/* Before each block stand how many of its octets were ever asked for, and how many it has, a multiple of 16. It is
+ * aligned to 16. */
 struct head { size_t used, size; } __attribute__((aligned(16)));
 _Static_assert(sizeof(struct head) == ALIGNED, "the block after a head is aligned as the head is");
 
-/* the least octets that a block has, the most for which one that grows gets as many again, and the most that are wiped word by word */
+/* the least octets that a block has, the most for which one that grows gets as many again, and the most that are wiped
+ * word by word */
 enum { LEAST = 48, MOST_DOUBLED = 1 << 16, FEW = 256 };
 
 static struct head *head_of(void *block) { return (struct head *)block - 1; }
@@ -127,7 +131,8 @@ static void free_in(char *empty, size_t size, void *handle, int32_t (*clear)(voi
     room_used = 0;
     int32_t answer = clear(handle);
     room = NULL;
-    /* Where the room is too small nothing was given back. Then the empty handle is made in the heap, where its blocks are left. */
+    /* Where the room is too small nothing was given back. Then the empty handle is made in the heap, where its blocks
+     * are left. */
     if (answer) (void)clear(handle);
     snmpsec_inside_free_block(handle);
     snmpsec_inside_wipe_free_stack();

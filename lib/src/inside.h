@@ -20,8 +20,8 @@
 #endif
 
 INSIDE void snmpsec_inside_wipe(void *octets, size_t octets_len);
-/* Wipes what a call may have left below the caller's frame, and in registers; the second after a configuration was read, and the third after a
- * handle was freed. */
+/* Wipes what a call may have left below the caller's frame, and in registers; the second after a configuration was
+ * read, and the third after a handle was freed. */
 INSIDE void snmpsec_inside_wipe_stack(void);
 INSIDE void snmpsec_inside_wipe_deep_stack(void);
 INSIDE void snmpsec_inside_wipe_free_stack(void);

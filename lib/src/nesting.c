@@ -1,11 +1,12 @@
-/* How deep a configuration is nested, looked at before the archive reads it: its parser's stack grows with each part of a dotted key and each
- * bracket, and a short text could nest thousands of tables. Not proved. */
+/* How deep a configuration is nested, looked at before the archive reads it: its parser's stack grows with each part of
+ * a dotted key and each bracket, and a short text could nest thousands of tables. Not proved. */
 #include "inside.h"
 
 /* the most; one that is no deeper than its rows has three */
 enum { MOST_DEEP = 16 };
 
-/* The place behind a string that begins at this one (TOML 1.0, "String"); one of a line ends with the line at the latest. */
+/* The place behind a string that begins at this one (TOML 1.0, "String"); one of a line ends with the line at the
+ * latest. One of several lines may have one or two quotes before the three that end it. */
 static size_t after_string(const uint8_t *text, size_t len, size_t at) {
     uint8_t quote = text[at];
     bool is_long = at + 2 < len && text[at + 1] == quote && text[at + 2] == quote;
@@ -13,7 +14,11 @@ static size_t after_string(const uint8_t *text, size_t len, size_t at) {
         if (text[at] == '\n' && !is_long) return at;
         if (text[at] == '\\' && quote == '"' && at + 1 < len && text[at + 1] != '\n') at++;
         else if (text[at] == quote && !is_long) return at + 1;
-        else if (text[at] == quote && at + 2 < len && text[at + 1] == quote && text[at + 2] == quote) return at + 3;
+        else if (text[at] == quote && at + 2 < len && text[at + 1] == quote && text[at + 2] == quote) {
+            size_t end = at + 3;
+            while (end < len && end < at + 5 && text[end] == quote) end++;
+            return end;
+        }
     }
     return len;
 }

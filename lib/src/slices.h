@@ -1,4 +1,5 @@
-/* How the library's own C calls the archive: slices that are never null, and the stack wiped behind a call. Not proved. */
+/* How the library's own C calls the archive: slices that are never null, and the stack wiped behind a call. Not
+ * proved. */
 #ifndef SLICES_H
 #define SLICES_H
 

@@ -1,4 +1,5 @@
-# The example agent, asked by net-snmp's tools at each level and with each hash: walks, Sets, refusals and counters. test.sh runs this.
+# The example agent, asked by net-snmp's tools at each level and with each hash: walks, Sets, refusals and counters.
+# test.sh runs this.
 expected_walk() { # the seven rows, or the six below system
     cat << 'ROWS'
 .1.3.6.1.2.1.1.1.0 = STRING: "a proved agent"
@@ -44,19 +45,24 @@ test_set() {
     has "set of another type" "wrongType" "$(ask snmpset $private $at $system.4.0 i 4)"
     has "set of no row" "notWritable" "$(ask snmpset $private $at $system.9.0 s x)"
     has "set outside of the view" "noAccess" "$(ask snmpset $private $at 1.3.6.1.4.1.99999.1.0 s x)"
-    has "set at a lower level" "authorizationError" "$(ask snmpset -l authNoPriv -u sha -a SHA -A maplesyrup $at $system.4.0 s x)"
+    has "set at a lower level" "authorizationError" "$(ask snmpset -l authNoPriv -u sha -a SHA -A maplesyrup $at \
+        $system.4.0 s x)"
     check "set back" '.1.3.6.1.2.1.1.4.0 = STRING: "nobody"' "$(ask snmpset $private $at $system.4.0 s nobody)"
 }
 
-# The six counters after these are told at the end: of each run the discovery counts one in counter 4.
+# The six counters after these are reported at the end: of each run the discovery counts one in counter 4.
 test_refusals() {
     local sha="-l authNoPriv -u sha -a SHA -A maplesyrup"
-    has "wrong password" "Authentication failure" "$(ask snmpget -l authNoPriv -u md -a MD5 -A wrongwrong $at $system.1.0)"
+    has "wrong password" "Authentication failure" \
+        "$(ask snmpget -l authNoPriv -u md -a MD5 -A wrongwrong $at $system.1.0)"
     has "unknown user" "Unknown user name" "$(ask snmpget -l noAuthNoPriv -u nobody $at $system.1.0)"
-    has "unsupported level" "Unsupported security level" "$(ask snmpget -l authNoPriv -u plain -a MD5 -A maplesyrup $at $system.1.0)"
-    has "wrong privacy password" "Timeout" "$(ask snmpget -l authPriv -u sha -a SHA -A maplesyrup -x AES -X wrongwrong $at $system.1.0)"
+    has "unsupported level" "Unsupported security level" \
+        "$(ask snmpget -l authNoPriv -u plain -a MD5 -A maplesyrup $at $system.1.0)"
+    has "wrong privacy password" "Timeout" "$(ask snmpget -l authPriv -u sha -a SHA -A maplesyrup -x AES -X wrongwrong \
+        $at $system.1.0)"
     has "another engine ID" "Timeout" "$(ask snmpget $sha -e 80001f8804616299 $at $system.1.0)"
-    has "a client that doesn't know the boots is corrected" "a proved agent" "$(ask snmpget $sha -e $engine $at $system.1.0)"
+    has "a client that doesn't know the boots is corrected" "a proved agent" \
+        "$(ask snmpget $sha -e $engine $at $system.1.0)"
     has "another context" "Bad context specified" "$(ask snmpget $sha -n other $at $system.1.0)"
 }
 
@@ -72,7 +78,10 @@ test_counters() { # what was told of the refusals' run alone
 }
 
 test_agent() {
-    if ! command -v snmpget > /dev/null; then echo "skipped: net-snmp's snmpget isn't installed (apt-get install snmp)"; return; fi
+    if ! command -v snmpget > /dev/null; then
+        echo "skipped: net-snmp's snmpget isn't installed (apt-get install snmp)"
+        return
+    fi
     begin_agent
     test_levels
     test_set

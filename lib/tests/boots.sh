@@ -1,4 +1,5 @@
-# The boots' file, of which no number may be told twice: starts are killed, and the file is junk, locked, or has no room. test.sh runs this.
+# The boots' file, of which no number may be told twice: starts are killed, and the file is junk, locked, or has no
+# room. test.sh runs this.
 boots=$OUT/boots
 starts=$work/starts
 mkdir -p "$starts"
@@ -14,7 +15,7 @@ refused() {
     shift 2
     told=$("$@" 2>&1 > "$starts/told")
     check "$expected" "$status $expected" "$? ${told//$starts/W}"
-    check "$expected: no number is told" "" "$(cat "$starts/told")"
+    check "$expected: no number is reported" "" "$(cat "$starts/told")"
 }
 
 # A start is killed as it enters each of its system calls in turn: the next one has a number that is new.
@@ -27,11 +28,17 @@ test_killed_at_each_call() {
     for name in $calls; do
         seen[$name]=$((${seen[$name]} + 1))
         begin_with '41\n'
-        { strace -qq -o /dev/null -e trace="$name" -e inject="$name:signal=KILL:when=${seen[$name]}" "$boots" "$starts/b" once > "$starts/told" 2>&1; } 2> /dev/null
+        { strace -qq -o /dev/null -e trace="$name" -e inject="$name:signal=KILL:when=${seen[$name]}" "$boots" \
+            "$starts/b" once > "$starts/told" 2>&1; } 2> /dev/null
         told=$(cat "$starts/told")
         after=$("$boots" "$starts/b" once)
-        check "killed at $name ${seen[$name]}: nothing is left over" "b b.lock" "$(ls "$starts" | grep '^b' | paste -sd' ')"
-        if { [ "$after" = 42 ] || [ "$after" = 43 ]; } && [ "${told:-0}" -lt "$after" ]; then n=$((n + 1)); else check "killed at $name ${seen[$name]}" "42 or 43" "$after after '$told'"; fi
+        check "killed at $name ${seen[$name]}: nothing is left over" "b b.lock" \
+            "$(ls "$starts" | grep '^b' | paste -sd' ')"
+        if { [ "$after" = 42 ] || [ "$after" = 43 ]; } && [ "${told:-0}" -lt "$after" ]; then
+            n=$((n + 1))
+        else
+            check "killed at $name ${seen[$name]}" "42 or 43" "$after after '$told'"
+        fi
     done
     check "kills at system calls" "$(wc -w <<< "$calls")" "$n"
     check "some of them" yes "$([ "$n" -gt 20 ] && echo yes)"
@@ -66,7 +73,8 @@ test_failing_calls() {
     local name error at left why
     while read -r name error at left why; do
         begin_with '41\n'
-        refused 1 "W/b: $why" strace -qq -o /dev/null -e trace="$name" -e inject="$name:error=$error:when=$at" "$boots" "$starts/b" once
+        refused 1 "W/b: $why" strace -qq -o /dev/null -e trace="$name" -e inject="$name:error=$error:when=$at" \
+            "$boots" "$starts/b" once
         check "$name fails by $error: the file" "$left" "$(cat "$starts/b")"
         check "$name fails by $error: nothing is left over" "" "$(ls "$starts" | grep new)"
     done << 'CALLS'
@@ -79,7 +87,10 @@ CALLS
 
 test_full_disk() {
     mkdir -p "$starts/full"
-    if ! mount -t tmpfs -o size=16k,mode=700 none "$starts/full" 2> /dev/null; then echo "skipped: boots on a full disk, since only root may mount one"; return; fi
+    if ! mount -t tmpfs -o size=16k,mode=700 none "$starts/full" 2> /dev/null; then
+        echo "skipped: boots on a full disk, since only root may mount one"
+        return
+    fi
     printf '41\n' > "$starts/full/b"
     touch "$starts/full/b.lock"
     dd if=/dev/zero of="$starts/full/fill" bs=4096 2> /dev/null
@@ -105,7 +116,8 @@ test_junk() {
     local junk
     for junk in '' 'x' '12' '12 \n' '-1\n' '2147483648\n' '99999999999\n' '1\n2\n' '\0\n' ' 1\n'; do
         begin_with "$junk"
-        has "junk '$junk' is refused" "W/b: no number from 0 to 2147483647. If the greatest boots" "$("$boots" "$starts/b" once 2>&1 | sed "s,$starts,W,")"
+        has "junk '$junk' is refused" "W/b: no number from 0 to 2147483647. If the greatest boots" \
+            "$("$boots" "$starts/b" once 2>&1 | sed "s,$starts,W,")"
         check "junk '$junk' stays" "" "$(printf -- "$junk" | cmp - "$starts/b" 2>&1)"
     done
     begin_with ''
@@ -119,6 +131,12 @@ test_junk() {
     ln -s /nonexistent/b "$starts/b"
     refused 1 "W/b: No such file or directory" "$boots" "$starts/b" once
     rm "$starts/b"
+    if [ "$(id -u)" = 0 ]; then
+        begin_with '41\n'
+        chown 65534 "$starts/b"
+        refused 1 "W/b: the file is another user's" "$boots" "$starts/b" once
+        rm "$starts/b"
+    fi
     refused 1 "W/b: No such file or directory" "$boots" --must-exist "$starts/b" once
     check "a first start" 1 "$("$boots" "$starts/b" once)"
     check "one that must exist" 2 "$("$boots" --must-exist "$starts/b" once)"
@@ -127,7 +145,8 @@ test_junk() {
 
 # A folder that others may write to: they could have the new file's name before, and keep it open.
 test_shared_folder() {
-    local mode remedy="other users may write to the folder: chmod go-w it, or name a file in a folder that only you may write to"
+    local mode
+    local remedy="other users may write to the folder: chmod go-w it, or name a file in a folder that only you may write to"
     mkdir -p "$starts/shared"
     for mode in 1777 777 775 720; do
         chmod $mode "$starts/shared"
@@ -137,12 +156,14 @@ test_shared_folder() {
     check "the folder of the path is the one that counts" 1 "$(cd "$starts/shared" && chmod 755 . && "$boots" b once)"
     if [ "$(id -u)" = 0 ]; then
         chown 65534 "$starts/shared"
-        refused 1 "W/shared: the folder is another user's: name a file in a folder of your own" "$boots" "$starts/shared/b" once
+        refused 1 "W/shared: the folder is another user's: name a file in a folder of your own" "$boots" \
+            "$starts/shared/b" once
     fi
     rm -r "$starts/shared"
 }
 
-# What stands under the names of new files: it isn't waited for, followed or written to, and what a killed start left is removed.
+# What stands under the names of new files: it isn't waited for, followed or written to, and what a killed start left is
+# removed.
 test_names_taken() {
     begin_with '41\n'
     echo theirs > "$starts/theirs"
@@ -164,23 +185,47 @@ test_names_taken() {
 test_latched() {
     begin_with '2147483646\n'
     check "the last boots" 2147483647 "$("$boots" "$starts/b" once)"
-    check "are told again" 2147483647 "$("$boots" "$starts/b" once)"
+    check "are reported again" 2147483647 "$("$boots" "$starts/b" once)"
     check "and stay" 2147483647 "$(cat "$starts/b")"
 }
 
+# waits until a process has a file open
+opens() { # PID FILE
+    local tries
+    for tries in {1..100}; do
+        find "/proc/$1/fd" -lname "$2" 2> /dev/null | grep -q . && return
+        sleep 0.02
+    done
+}
+
 test_locked() {
-    local pid
+    local pid next
     begin_with '41\n'
-    chmod 644 "$starts/b"
+    touch "$starts/b.lock"
+    chmod 644 "$starts/b" "$starts/b.lock"
     "$boots" "$starts/b" > "$starts/first" & pid=$!
     for _ in {1..50}; do [ -s "$starts/first" ] && break; sleep 0.02; done
     refused 1 "W/b: another process uses it" "$boots" "$starts/b" once
     check "the first start's number stays" "42 42" "$(cat "$starts/first" "$starts/b" | paste -sd' ')"
     check "its modes" "600 600" "$(stat -c %a "$starts/b" "$starts/b.lock" | paste -sd' ')"
-    { kill -9 $pid; wait $pid; } 2> /dev/null
-    check "when it is killed the lock is free" 43 "$("$boots" "$starts/b" once)"
-    for _ in {1..50}; do "$boots" "$starts/b" once & "$boots" "$starts/b" once & wait; done > "$starts/all" 2> /dev/null
-    check "of pairs at once none has the same" "" "$(sort -n "$starts/all" | uniq -d)"
+    "$boots" "$starts/b" once > "$starts/next" & next=$!
+    opens $next "$starts/b.lock"
+    { kill -9 $pid; wait $pid $next; } 2> /dev/null
+    check "when it is killed the lock is free, which the next start waits for" 43 "$(cat "$starts/next")"
+    for _ in {1..50}; do "$boots" "$starts/b" once & "$boots" "$starts/b" once & wait; done > "$starts/all" 2>&1
+    check "of pairs at once each has a number of its own" "$(seq 44 143)" "$(sort -n "$starts/all")"
+}
+
+# The Python package and the programs in C share a file.
+test_beside_python() {
+    if ! command -v python3 > /dev/null; then echo "skipped: boots of Python and C: there is no python3"; return; fi
+    local program="import sys; from snmpsec.files import engine_boots
+with engine_boots(sys.argv[1]) as boots: print(boots)"
+    begin_with '41\n'
+    for _ in {1..20}; do
+        "$boots" "$starts/b" once & PYTHONPATH=$here/python/src python3 -c "$program" "$starts/b" & wait
+    done > "$starts/all" 2>&1
+    check "of Python and C at once each has a number of its own" "$(seq 42 81)" "$(sort -n "$starts/all")"
 }
 
 if command -v strace > /dev/null && strace -qq -o /dev/null true 2> /dev/null; then
@@ -197,3 +242,4 @@ test_shared_folder
 test_names_taken
 test_latched
 test_locked
+test_beside_python

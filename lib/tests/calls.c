@@ -13,7 +13,7 @@ static int begin(snmpsec_agent **agent) {
     return snmpsec_agent_new(config, config_len, engine, sizeof engine, BOOTS, NOW - TIME, agent);
 }
 
-/* What is told of a configuration, at each length of a buffer; and of memory that is refused it. */
+/* What is reported of a configuration, at each length of a buffer; and of memory that is refused it. */
 static void check_config_fault(void) {
     static const char text[] = "[[user]]\nname = \"ann\"\n[[user]]\nname = \"bob\"\nauht = \"md5\"\n";
     static const char expected[] = "refused config user 1 BadKey\nuser 1: auht: not a key of this table, the nearest is auth\n";
@@ -23,7 +23,7 @@ static void check_config_fault(void) {
     snmpsec_config_place place = {9, 9, 9, 9};
     int answer;
     check("a configuration", SNMPSEC_OK, snmpsec_config_fault(config, config_len, &place, out, sizeof out, &written));
-    check("nothing is told of it", 0, (long long)written);
+    check("nothing is reported of it", 0, (long long)written);
     check("no text is one", SNMPSEC_OK, snmpsec_config_fault(NULL, 0, &place, out, sizeof out, &written));
     for (size_t room = 0; room < sizeof out; room++) {
         memset(out, 'x', sizeof out);
@@ -31,7 +31,7 @@ static void check_config_fault(void) {
         check("a misspelt key", room < strlen(expected) ? SNMPSEC_SHORT_BUFFER : SNMPSEC_BAD_CONFIGURATION, answer);
         check("its table, row and reason", 1, place.table == SNMPSEC_USER_TABLE && place.position == 1 && place.reason == SNMPSEC_UNLISTED_KEY
                                                   && place.key == SNMPSEC_NO_KEY);
-        check("what is told of it", 1, written == strlen(expected) && (room < written ? out[0] == 'x' : !memcmp(out, expected, written)));
+        check("what is reported of it", 1, written == strlen(expected) && (room < written ? out[0] == 'x' : !memcmp(out, expected, written)));
     }
     answer = snmpsec_config_fault((const uint8_t *)missing, strlen(missing), &place, more, sizeof more, &written);
     check("a key that is missing", 1, answer == SNMPSEC_BAD_CONFIGURATION && place.table == SNMPSEC_FAMILY_TABLE && place.reason == SNMPSEC_MISSING_KEY

@@ -15,7 +15,8 @@ test_c() {
         echo "fuzz: $(tail -1 "$work/fuzz.out")"
     done
     if command -v c++ > /dev/null; then
-        check "the header in C++" "" "$(echo '#include "snmpsec.h"' | c++ -std=c++11 -Wall -Wextra -Werror -fsyntax-only -I"$here/include" -x c++ - 2>&1)"
+        check "the header in C++" "" "$(echo '#include "snmpsec.h"' | c++ -std=c++11 -Wall -Wextra -Werror \
+            -fsyntax-only -I"$here/include" -x c++ - 2>&1)"
     else
         echo "skipped: no C++ compiler"
     fi

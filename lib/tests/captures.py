@@ -1,11 +1,11 @@
 #!/usr/bin/env python3
 """Compares the log that `snmpsec datagrams` prints of captures with what tshark shows of them: captures.py PROGRAM
 
-Captures are made of packets of each kind that the slow model writes, of examples/replay/captured.pcap, of that one by editcap in other
-formats and cut, of all these in pcapng, and by tcpdump of the same exchange over the loopback link, where it may listen there. Of tcpdump's
-dumps of captures with whole records `snmpsec datagrams --ip` prints the same octets, and tells the same. What differs is printed, and the
-status is then 1. Of a datagram that is cut short and of a first piece tshark shows what there is, so the records that the program tells are
-left out.
+Captures are made of packets of each kind that the slow model writes, of examples/replay/captured.pcap, of that one by
+editcap in other formats and cut, of all these in pcapng, and by tcpdump of the same exchange over the loopback link,
+where it may listen there. Of tcpdump's dumps of captures with whole records `snmpsec datagrams --ip` prints the same
+octets, and tells the same. What differs is printed, and the status is then 1. Of a datagram that is cut short and of a
+first piece tshark shows what there is, so the records that the program tells are left out.
 """
 import pathlib
 import re
@@ -30,8 +30,23 @@ TOLD = re.compile(r"^snmpsec: record (\d+): ", re.M)
 def shown(path, ports):
     """The moment, the datagram and the record's number of each that tshark finds."""
     wanted = f"udp.port in {{{','.join(map(str, ports))}}} and udp.payload"
-    words = ["tshark", "-r", path, "-n", "-o", "ip.defragment:FALSE", "-o", "ipv6.defragment:FALSE", "-Y", wanted, "-T", "fields"]
-    done = subprocess.run([*words, *(it for field in FIELDS for it in ("-e", field))], capture_output=True, text=True, check=False)
+    words = [
+        "tshark",
+        "-r",
+        path,
+        "-n",
+        "-o",
+        "ip.defragment:FALSE",
+        "-o",
+        "ipv6.defragment:FALSE",
+        "-Y",
+        wanted,
+        "-T",
+        "fields",
+    ]
+    done = subprocess.run(
+        [*words, *(it for field in FIELDS for it in ("-e", field))], capture_output=True, text=True, check=False
+    )
     for line in done.stdout.splitlines():
         moment, octets, number = line.split("\t")
         yield int(moment.split(".")[0]), octets.split(",")[0].replace(":", ""), int(number)
@@ -47,7 +62,8 @@ def differs(program, path, ports):
 
 
 def dumps_differ(program, path):
-    """What the program says of the records of a capture, and of tcpdump's dumps of them, where that isn't the same but for the moments."""
+    """What the program says of the records of a capture, and of tcpdump's dumps of them, where that isn't the same but
+    for the moments."""
     dumps = subprocess.run(["tcpdump", "-r", path, "-n", "-x"], capture_output=True, check=False).stdout
     said = []
     for words in [path], ["--ip", "-"]:
@@ -90,8 +106,11 @@ def made():
 
 
 def heard(path):
-    """Sends the datagrams of the log over the loopback link while tcpdump listens; answers the port, or nothing where it may not."""
-    with socket.socket(socket.AF_INET, socket.SOCK_DGRAM) as agent, socket.socket(socket.AF_INET, socket.SOCK_DGRAM) as manager:
+    """Sends the datagrams of the log over the loopback link while tcpdump listens; answers the port, or nothing where
+    it may not."""
+    with socket.socket(socket.AF_INET, socket.SOCK_DGRAM) as agent, socket.socket(
+        socket.AF_INET, socket.SOCK_DGRAM
+    ) as manager:
         agent.bind(("127.0.0.1", 0))
         manager.bind(("127.0.0.1", 0))
         port = agent.getsockname()[1]
@@ -115,9 +134,15 @@ def main():
             tried.append((f"{room}/{name}", [161, 162]))
             pathlib.Path(tried[-1][0]).write_bytes(octets)
         if shutil.which("editcap"):
-            for name, words in [("nano", ["-F", "nsecpcap"]), ("cut", ["-F", "pcap", "-s", "100"]), ("later", ["-F", "pcap", "-t", "3600.5"])]:
+            for name, words in [
+                ("nano", ["-F", "nsecpcap"]),
+                ("cut", ["-F", "pcap", "-s", "100"]),
+                ("later", ["-F", "pcap", "-t", "3600.5"]),
+            ]:
                 tried.append((f"{room}/{name}.pcap", [161, 162]))
-                subprocess.run(["editcap", *words, REPLAY / "captured.pcap", tried[-1][0]], check=True, stderr=subprocess.DEVNULL)
+                subprocess.run(
+                    ["editcap", *words, REPLAY / "captured.pcap", tried[-1][0]], check=True, stderr=subprocess.DEVNULL
+                )
             for path, ports in list(tried):
                 tried.append((f"{path}.pcapng", ports))
                 subprocess.run(["editcap", "-F", "pcapng", path, tried[-1][0]], check=True, stderr=subprocess.DEVNULL)

@@ -4,8 +4,14 @@
 still() { grep -v -e 'Counter[36]' -e Timeticks -e Gauge32 -e '^\.1\.3\.6\.1\.2\.1\.\(6\|7\|25\)\.' -e '^\.1\.3\.6\.1\.4\.1\.2021\.' -e '^\.1\.3\.6\.1\.4\.1\.8072\.1\.5\.' \
     -e '^\.1\.3\.6\.1\.6\.3\.10\.2\.1\.3\.0' -e 'No more variables'; }
 
+# unmoved BEFORE AFTER: the lines of a walk without the names of which two walks of the device say something else
+unmoved() {
+    diff "$1" "$2" | sed -n 's/^[<>] \([^ ]*\) = .*/\1 = /p' | sort -u > "$work/moving"
+    grep -v -F -f "$work/moving"
+}
+
 test_client_levels() {
-    local user hash level options described=".1.3.6.1.2.1.1.1.0 = STRING: \"loopback\""
+    local user hash level options walk described=".1.3.6.1.2.1.1.1.0 = STRING: \"loopback\""
     while read -r user hash privacy; do
         for level in authNoPriv authPriv; do
             options="-u $user -a $hash -l $level 127.0.0.1:$snmpd_port"
@@ -13,9 +19,15 @@ test_client_levels() {
             check "and the next one" "$described" "$(ours get_next $options $system.1)"
             has "and by GetBulk" "$described" "$(ours bulk -M 3 $options $system.1)"
         done
-        ask snmpwalk -u "$user" -l authPriv -a "$hash" -A maplesyrup -x AES -X "$privacy" "127.0.0.1:$snmpd_port" 1.3.6.1 | still > "$work/walked"
-        ours walk -u "$user" -a "$hash" "127.0.0.1:$snmpd_port" 1.3.6.1 | still > "$work/walked.ours"
-        check "the client walks as snmpwalk does, as $user" "" "$(diff "$work/walked" "$work/walked.ours" | head -6)"
+        for walk in before ours after; do
+            if [ $walk = ours ]; then ours walk -u "$user" -a "$hash" "127.0.0.1:$snmpd_port" 1.3.6.1
+            else ask snmpwalk -t 20 -u "$user" -l authPriv -a "$hash" -A maplesyrup -x AES -X "$privacy" \
+                "127.0.0.1:$snmpd_port" 1.3.6.1; fi | still > "$work/walked.$walk"
+        done
+        for walk in before ours; do
+            unmoved "$work/walked.before" "$work/walked.after" < "$work/walked.$walk" > "$work/unmoved.$walk"
+        done
+        check "the client walks as snmpwalk does, as $user" "" "$(diff "$work/unmoved.before" "$work/unmoved.ours" | head -6)"
     done << 'USERS'
 md MD5 syrupmaple
 sha SHA another-one
@@ -37,15 +49,26 @@ test_client_refusals() {
 
 test_client_notifications() {
     local options="-v3 -u sha256 -l authPriv -a SHA-256 -A maplesyrup -x AES -X a-third-one 127.0.0.1:$trap_port" privacy=a-third-one
-    ours listen -u sha256 --engine 8000000005060708 --boots "$work/listen.boots" --count 3 "127.0.0.1:$trap_port" > "$work/listened" &
+    local files="--boots $work/listen.boots --clocks $work/listen.clocks" lower=${options/authPriv/authNoPriv}
+    ours listen -u sha256 --engine 8000000005060708 $files "127.0.0.1:$trap_port" > "$work/listened" &
     local listener=$!
     bound "$trap_port"
+    snmptrap -e 0x8000000001020304 ${options/authPriv/noAuthNoPriv} 40 1.3.6.1.6.3.1.1.5.3 $system.5.0 s nobody
+    snmptrap -e 0x8000000001020304 $lower 41 1.3.6.1.6.3.1.1.5.3 $system.5.0 s lower
+    snmpinform -r 0 -t 0.5 $lower 41 1.3.6.1.6.3.1.1.5.4 > /dev/null 2>&1
+    check "an Inform below the least level isn't acknowledged" 1 $?
     snmptrap -e 0x8000000001020304 $options 42 1.3.6.1.6.3.1.1.5.3 $system.5.0 s up
     snmpinform $options 43 1.3.6.1.6.3.1.1.5.4
     check "an Inform of net-snmp is acknowledged" 0 $?
     check "so is ours" "" "$(ours trap -u sha256 --inform "127.0.0.1:$trap_port" 1.3.6.1.6.3.1.1.5.1)"
+    kill -USR1 "$(pgrep -P "$listener")"
+    in_file "what was dropped is counted" "$work/listened" "snmpsec-listen: dropped 3: below the least level"
+    kill "$(pgrep -P "$listener")"
     wait "$listener"
-    check "all three are printed" "trap inform inform" "$(grep -o '^trap\|^inform' "$work/listened" | tr '\n' ' ' | sed 's/ $//')"
+    check "and at the end" 2 "$(grep -c "snmpsec-listen: dropped 3: below the least level" "$work/listened")"
+    check "all others are printed" "trap authPriv inform authPriv inform authPriv" \
+        "$(sed -n 's/^\(trap\|inform\) .* level \([A-Za-z]*\) .*/\1 \2/p' "$work/listened" | paste -sd' ')"
+    check "the trap's engine is saved" 8000000001020304 "$(sed 1d "$work/listen.clocks" | cut -d' ' -f1)"
     has "with their variables" '.1.3.6.1.2.1.1.5.0 = STRING: "up"' "$(cat "$work/listened")"
     check "the boots are counted" 1 "$(cat "$work/listen.boots")"
     printf 'createUser -e 0x8000000001020305 sha256 SHA-256 maplesyrup AES a-third-one\ncreateUser sha256 SHA-256 maplesyrup AES a-third-one\n' > "$work/trapd.conf"

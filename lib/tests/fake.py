@@ -1,10 +1,10 @@
 #!/usr/bin/env python3
 """A fake agent on 127.0.0.1, which answers a GetRequest with one thing wrong: fake.py PORT WRONG
 
-WRONG is nothing, level (it answers at noAuthNoPriv), context (in another context), id (with another request-id), or status=N (an error-status).
-Or the answer is right, and before it comes what anybody may send: junk (an octet, and none), flipped (the answer with a bit turned), echo (the
-request), old (five authentic answers to another request), late (nothing, the first time that a request comes), or never (junk alone). It runs until
-it is killed."""
+WRONG is nothing, level (it answers at noAuthNoPriv), context (in another context), id (with another request-id), or
+status=N (an error-status). Or the answer is right, and before it comes what anybody may send: junk (an octet, and
+none), flipped (the answer with a bit turned), echo (the request), old (five authentic answers to another request), late
+(nothing, the first time that a request comes), or never (junk alone). It runs until it is killed."""
 import socket
 import sys
 
@@ -43,7 +43,13 @@ def before(asked, datagram, wrong):
     flipped[len(flipped) // 2] ^= 1
     old = asked._replace(request_id=asked.request_id - 1, message_id=asked.message_id - 1)
     junk = [b"\0", b""]
-    return {"junk": junk, "never": junk, "flipped": [bytes(flipped)], "echo": [datagram], "old": [answer(old, wrong)] * 5}.get(wrong, [])
+    return {
+        "junk": junk,
+        "never": junk,
+        "flipped": [bytes(flipped)],
+        "echo": [datagram],
+        "old": [answer(old, wrong)] * 5,
+    }.get(wrong, [])
 
 
 def main():

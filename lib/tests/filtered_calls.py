@@ -10,7 +10,9 @@ import sys
 
 def sets():
     """The calls, and the other sets, of each set."""
-    text = subprocess.run(["systemd-analyze", "syscall-filter", "--no-pager"], check=True, capture_output=True, text=True).stdout
+    text = subprocess.run(
+        ["systemd-analyze", "syscall-filter", "--no-pager"], check=True, capture_output=True, text=True
+    ).stdout
     found, name = {}, None
     for line in text.splitlines():
         word = line.strip()

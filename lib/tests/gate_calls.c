@@ -70,6 +70,23 @@ static void nobody_answered(void) {
     snmpsec_gate_free(gate);
 }
 
+/* A string of several lines may end by four or five quotes (TOML 1.0, "String"); parts of keys behind it count. */
+static void nested_behind_strings(void) {
+    static const char *const texts[] = {
+        "a = [\"\"\"b\"\"\"\", { a.a.a.a.a.a.a.a.a.a.a.a.a.a.a.a.a.a.a.a = 1 }]",
+        "a = [\"\"\"b\"\"\"\"\", { a.a.a.a.a.a.a.a.a.a.a.a.a.a.a.a.a.a.a.a = 1 }]",
+        "a = ['''b'''', { a.a.a.a.a.a.a.a.a.a.a.a.a.a.a.a.a.a.a.a = 1 }]",
+    };
+    uint8_t out[400];
+    size_t len = 0;
+    for (size_t i = 0; i < sizeof texts / sizeof *texts; i++) {
+        const uint8_t *config = (const uint8_t *)texts[i];
+        int answer = snmpsec_gate_fault(config, strlen(texts[i]), out, sizeof out, &len);
+        check("nested behind a string", SNMPSEC_BAD_CONFIGURATION, answer);
+        check("and refused for that", 0, memcmp(out, "refused config nesting\n", 23));
+    }
+}
+
 static void refused_texts(void) {
     static const char bad[] = HEAD "[[device]]\nadress = '10.1.0.7:161'\n", deep[] = "a = [[[[[[[[[[[[[[[[[[[[[[]]]]]]]]]]]]]]]]]]]]]]";
     uint8_t out[400];
@@ -220,6 +237,7 @@ int main(int argc, char **argv) {
     read_capture(argc, argv);
     said();
     nobody_answered();
+    nested_behind_strings();
     refused_texts();
     nothing_given();
     datagrams_refused();

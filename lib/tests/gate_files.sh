@@ -4,10 +4,14 @@ full=$work/full_gate
 
 fill() { dd if=/dev/zero of="$full/fill" bs=4096 2> /dev/null; }
 
-# A full disk keeps the gateway from a start, since no boots may come twice; but one that runs goes on with the boots that it has.
+# A full disk keeps the gateway from a start, since no boots may come twice; but one that runs goes on with the boots
+# that it has.
 test_gate_full_disk() {
     mkdir -p "$full"
-    if ! mount -t tmpfs -o size=64k,mode=700 none "$full" 2> /dev/null; then echo "skipped: the gateway on a full disk, since only root may mount one"; return; fi
+    if ! mount -t tmpfs -o size=64k,mode=700 none "$full" 2> /dev/null; then
+        echo "skipped: the gateway on a full disk, since only root may mount one"
+        return
+    fi
     write_own_config
     sed -i "s,^boots = .*,boots = \"$full/boots\"," "$own/gate.toml"
     begin_own "$programs/snmpsec-gate" --counts "$full/counts" --log-datagrams "$full/datagrams"
@@ -51,14 +55,16 @@ test_full_log() {
     check "with one more boot" 2 "$(cat "$full/boots")"
     kill -USR1 "$gate"
     for _ in {1..200}; do [ -s "$full/counts" ] && break; sleep 0.1; done
-    check "the counts say how many datagrams aren't logged" 1 $(($(sed -n 's/^snmpsec_gate_unlogged_total //p' "$full/counts") > 0))
+    check "the counts say how many datagrams aren't logged" 1 \
+        $(($(sed -n 's/^snmpsec_gate_unlogged_total //p' "$full/counts") > 0))
 }
 
 test_full_start() {
     rm -f "$full/counts" "$full/datagrams"
     fill
     check "a start on a full disk" "$full/boots: No space left on device
-1" "$("$programs/snmpsec-gate" "$own/gate.toml" 2>&1 | grep -v 'write-community'; echo "${PIPESTATUS[0]}")"
+1" "$("$programs/snmpsec-gate" "$own/gate.toml" 2>&1 \
+        | grep -v -e 'write-community' -e 'octets of datagrams'; echo "${PIPESTATUS[0]}")"
     check "the boots of before stay" 2 "$(cat "$full/boots")"
 }
 
@@ -78,7 +84,10 @@ test_gate_killed() {
     write_own_config
     rm -f "$own"/boots*
     most=$((3 * $(time_of_start)))
-    for i in 1 2 3; do (while :; do patience=0.2 asks set_variables $system.4.0 s "client $i"; done) > "$own/client$i" 2>&1 & clients+=($!); done
+    for i in 1 2 3; do
+        (while :; do patience=0.2 asks set_variables $system.4.0 s "client $i"; done) > "$own/client$i" 2>&1 & \
+            clients+=($!)
+    done
     for _ in {1..30}; do
         "$programs/snmpsec-gate" "$own/gate.toml" > /dev/null 2>> "$own/killed.err" & gate=$!
         sleep "$(printf '%d.%03d' $((i = RANDOM % most, i / 1000)) $((i % 1000)))"
@@ -87,7 +96,8 @@ test_gate_killed() {
     done
     { kill "${clients[@]}" && wait "${clients[@]}"; } 2> /dev/null
     printf '%s\n' "${told[@]}" | grep . > "$own/told"
-    check "the boots go up, each time by one at most" "" "$(awk 'NR > 1 && $1 != last && $1 != last + 1 { print last, $1 } { last = $1 }' "$own/told")"
+    check "the boots go up, each time by one at most" "" \
+        "$(awk 'NR > 1 && $1 != last && $1 != last + 1 { print last, $1 } { last = $1 }' "$own/told")"
     last=$(tail -1 "$own/told")
     check "some starts got so far" 1 $((last > 3))
     begin_own "$programs/snmpsec-gate"
@@ -117,7 +127,9 @@ test_gate_calls_allowed() {
     pkill -P "$gate" -TERM
     wait "$gate"
     check "under strace it ends" 0 $?
-    check "its unit allows each of its system calls" "0" "$(python3 "$here/tests/filtered_calls.py" "$here/gate/snmpsec-gate.service" "$own/strace" > "$own/filtered"; echo $?)"
+    check "its unit allows each of its system calls" "0" \
+        "$(python3 "$here/tests/filtered_calls.py" "$here/gate/snmpsec-gate.service" "$own/strace" \
+            > "$own/filtered"; echo $?)"
     echo "gate: $(paste -sd' ' "$own/filtered")"
 }
 

@@ -1,9 +1,13 @@
-# The gateway's memory: what is left of keys, passwords and communities once it has ended, and what valgrind's memcheck finds. test.sh runs this.
+# The gateway's memory: what is left of keys, passwords and communities once it has ended, and what valgrind's memcheck
+# finds. test.sh runs this.
 . "$here/tests/own_gate.sh"
 
 test_gate_secrets() {
     local core=()
-    if [ "$(id -u)" != 0 ]; then echo "skipped: looks for the gateway's secrets, since only root may look into it"; return; fi
+    if [ "$(id -u)" != 0 ]; then
+        echo "skipped: looks for the gateway's secrets, since only root may look into it"
+        return
+    fi
     cc -shared -fPIC -O1 "$here/tests/ended.c" -o "$own/ended.so"
     check "what stops the gateway at its end is built" 0 $?
     if ! command -v gcore > /dev/null; then
@@ -14,7 +18,8 @@ test_gate_secrets() {
         echo "skipped: looks for the gateway's secrets in cores and registers: no process may be traced here"
     fi
     rm -f "$own"/tried*
-    PYTHONPATH=$here/python/src PYTHONDONTWRITEBYTECODE=1 python3 "$here/tests/look_gate.py" "${core[@]}" "$OUT/snmpsec-gate" "$own/ended.so" \
+    PYTHONPATH=$here/python/src PYTHONDONTWRITEBYTECODE=1 python3 "$here/tests/look_gate.py" "${core[@]}" \
+        "$OUT/snmpsec-gate" "$own/ended.so" \
         "$gate_port" "$device_port" > "$own/look" 2>&1
     check "no key, password or community is left once it has ended" 0 $?
     grep -v ' looked for' "$own/look"
@@ -22,11 +27,16 @@ test_gate_secrets() {
 }
 
 test_gate_valgrind() {
-    if ! command -v valgrind > /dev/null; then echo "skipped: the gateway under valgrind (apt-get install valgrind)"; return; fi
+    if ! command -v valgrind > /dev/null; then
+        echo "skipped: the gateway under valgrind (apt-get install valgrind)"
+        return
+    fi
     write_own_config "waiting = 64"
     : > "$own/err"
-    valgrind -q --leak-check=full --show-leak-kinds=all --errors-for-leak-kinds=all --error-exitcode=9 --log-file="$own/valgrind" \
-        "$OUT/snmpsec-gate" --counts "$own/counts" --log-datagrams "$own/logged" "$own/gate.toml" > "$own/out" 2>> "$own/err" &
+    valgrind -q --leak-check=full --show-leak-kinds=all --errors-for-leak-kinds=all --error-exitcode=9 \
+        --log-file="$own/valgrind" \
+        "$OUT/snmpsec-gate" --counts "$own/counts" --log-datagrams "$own/logged" "$own/gate.toml" > "$own/out" \
+        2>> "$own/err" &
     gate=$!
     pids+=("$gate")
     for _ in {1..300}; do

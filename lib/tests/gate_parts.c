@@ -150,6 +150,8 @@ static void sets_again(void) {
     (void)waiting_asks(2, &set);
     waiting_begins(3, &client, (const uint8_t *)"ann", 3, digest);
     check("and again", 1, waiting_of(3)->is_repeated);
+    waiting_begins(4, &client, (const uint8_t *)"ann", 3, 0);
+    check("another request is no Set of before", 0, waiting_of(4)->is_repeated);
     waiting_clear();
 }
 

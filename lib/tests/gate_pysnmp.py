@@ -1,17 +1,38 @@
 #!/usr/bin/env python3
-"""What pysnmp gets through a gateway, by each user at each level, beside what it gets from the device itself by SNMPv2c: gate_pysnmp.py GATE-PORT
-DEVICE-PORT COMMUNITY CONTEXT
+"""What pysnmp gets through a gateway, by each user at each level, beside what it gets from the device itself by
+SNMPv2c: gate_pysnmp.py GATE-PORT DEVICE-PORT COMMUNITY CONTEXT
 
-It prints what differs, and how many exchanges were compared; the status is 1 if any differs. Debian's package is python3-pysnmp4."""
+It prints what differs, and how many exchanges were compared; the status is 1 if any differs. Debian's package is
+python3-pysnmp4."""
 import sys
 import warnings
 
 warnings.simplefilter("ignore")
-from pysnmp.hlapi import (CommunityData, ContextData, ObjectIdentity, ObjectType, OctetString, SnmpEngine, UdpTransportTarget, UsmUserData, bulkCmd,  # noqa: E402
-                          getCmd, nextCmd, setCmd, usmAesCfb128Protocol, usmHMAC192SHA256AuthProtocol, usmHMACMD5AuthProtocol, usmHMACSHAAuthProtocol)
+from pysnmp.hlapi import (
+    CommunityData,
+    ContextData,
+    ObjectIdentity,
+    ObjectType,
+    OctetString,
+    SnmpEngine,
+    UdpTransportTarget,
+    UsmUserData,
+    bulkCmd,  # noqa: E402
+    getCmd,
+    nextCmd,
+    setCmd,
+    usmAesCfb128Protocol,
+    usmHMAC192SHA256AuthProtocol,
+    usmHMACMD5AuthProtocol,
+    usmHMACSHAAuthProtocol,
+)
 
 GATE, DEVICE, COMMUNITY, CONTEXT = int(sys.argv[1]), int(sys.argv[2]), sys.argv[3], sys.argv[4]
-USERS = {"md": (usmHMACMD5AuthProtocol, "syrupmaple"), "sha": (usmHMACSHAAuthProtocol, "another-one"), "sha256": (usmHMAC192SHA256AuthProtocol, "a-third-one")}
+USERS = {
+    "md": (usmHMACMD5AuthProtocol, "syrupmaple"),
+    "sha": (usmHMACSHAAuthProtocol, "another-one"),
+    "sha256": (usmHMAC192SHA256AuthProtocol, "a-third-one"),
+}
 SYSTEM, UP_TIME = "1.3.6.1.2.1.1", "1.3.6.1.2.1.1.3.0"
 
 
@@ -20,14 +41,21 @@ def users():
     yield "plain 1", UsmUserData("plain")
     for name, (hash_of, word) in USERS.items():
         yield f"{name} 2", UsmUserData(name, "maplesyrup", authProtocol=hash_of)
-        yield f"{name} 3", UsmUserData(name, "maplesyrup", word, authProtocol=hash_of, privProtocol=usmAesCfb128Protocol)
+        yield f"{name} 3", UsmUserData(
+            name, "maplesyrup", word, authProtocol=hash_of, privProtocol=usmAesCfb128Protocol
+        )
 
 
 class Side:
     """A way to ask: at a port, as somebody, in a context."""
 
     def __init__(self, port, who, context):
-        self.parts = SnmpEngine(), who, UdpTransportTarget(("127.0.0.1", port), timeout=3, retries=1), ContextData(contextName=context)
+        self.parts = (
+            SnmpEngine(),
+            who,
+            UdpTransportTarget(("127.0.0.1", port), timeout=3, retries=1),
+            ContextData(contextName=context),
+        )
 
     def ask(self, command, numbers, names):
         objects = [ObjectType(ObjectIdentity(name)) for name in names]
@@ -35,7 +63,9 @@ class Side:
 
     def walk(self, command, *numbers):
         found = []
-        for told in command(*self.parts, *numbers, ObjectType(ObjectIdentity(SYSTEM)), lookupMib=False, lexicographicMode=False):
+        for told in command(
+            *self.parts, *numbers, ObjectType(ObjectIdentity(SYSTEM)), lookupMib=False, lexicographicMode=False
+        ):
             found.append(shown(told))
         return found
 
@@ -47,7 +77,14 @@ def shown(told):
     fault, status, index, bindings = told
     if fault:
         return str(fault)
-    return int(status), int(index), [(str(name), type(value).__name__, "" if str(name) == UP_TIME else value.prettyPrint()) for name, value in bindings]
+    return (
+        int(status),
+        int(index),
+        [
+            (str(name), type(value).__name__, "" if str(name) == UP_TIME else value.prettyPrint())
+            for name, value in bindings
+        ],
+    )
 
 
 def exchanges(side):

@@ -1,8 +1,9 @@
 #!/usr/bin/env python3
 """pysnmp as a receiver of notifications on 127.0.0.1: gate_pysnmp_receiver.py PORT ENGINE
 
-It prints the contextName and the variables of each that it takes from the user sha256-priv: of Informs as their own engine's, and of Traps as the
-engine's in hex, ENGINE. It runs until it is killed. Debian's package is python3-pysnmp4."""
+It prints the contextName and the variables of each that it takes from the user sha256-priv: of Informs as their own
+engine's, and of Traps as the engine's in hex, ENGINE. It runs until it is killed. Debian's package is
+python3-pysnmp4."""
 import sys
 import warnings
 
@@ -21,7 +22,15 @@ def main():
     receiver = engine.SnmpEngine()
     config.addTransport(receiver, udp.domainName, udp.UdpTransport().openServerMode(("127.0.0.1", int(sys.argv[1]))))
     for of in ({}, {"securityEngineId": v2c.OctetString(hexValue=sys.argv[2])}):
-        config.addV3User(receiver, "sha256-priv", config.usmHMAC192SHA256AuthProtocol, "maplesyrup", config.usmAesCfb128Protocol, "syrupmaple", **of)
+        config.addV3User(
+            receiver,
+            "sha256-priv",
+            config.usmHMAC192SHA256AuthProtocol,
+            "maplesyrup",
+            config.usmAesCfb128Protocol,
+            "syrupmaple",
+            **of
+        )
     ntfrcv.NotificationReceiver(receiver, told)
     receiver.transportDispatcher.jobStarted(1)
     receiver.transportDispatcher.runDispatcher()

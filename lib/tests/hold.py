@@ -1,5 +1,6 @@
 #!/usr/bin/env python3
-"""An agent and a manager of a file, from Python, that stop for a look at the memory (look.py): hold.py CONFIG ENGINE-HEX. Not proved."""
+"""An agent and a manager of a file, from Python, that stop for a look at the memory (look.py): hold.py CONFIG
+ENGINE-HEX. Not proved."""
 import os
 import sys
 

@@ -20,7 +20,7 @@ static snmpsec_manager *begun(void) {
     return manager;
 }
 
-/* Each part of what is kept goes into a buffer of its length, and what it is to the request that was written is told. */
+/* Each part of what is kept goes into a buffer of its length, and what it is to the request that was written is reported. */
 static void look_at_kept(snmpsec_manager *manager) {
     static const uint8_t empty[MOST_OCTETS];
     snmpsec_reply reply = {0};

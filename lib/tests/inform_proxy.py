@@ -1,10 +1,11 @@
 #!/usr/bin/env python3
-"""Stands between a sender of Informs and their receiver on 127.0.0.1, and makes trouble: inform_proxy.py PORT RECEIVER-PORT FILE
+"""Stands between a sender of Informs and their receiver on 127.0.0.1, and makes trouble: inform_proxy.py PORT
+RECEIVER-PORT FILE
 
-FILE has words, which are read anew for each datagram: nothing; forged (before each answer comes the answer with its last octet changed, and a Report
-without authentication that says the user is unknown); twice (each answer comes twice); late (each answer comes 1.5 seconds later); other (each answer
-but those to discoveries comes from the address of nobody that was asked); lost (the first Report with authentication doesn't come). It runs until it is
-killed."""
+FILE has words, which are read anew for each datagram: nothing; forged (before each answer comes the answer with its
+last octet changed, and a Report without authentication that says the user is unknown); twice (each answer comes twice);
+late (each answer comes 1.5 seconds later); other (each answer but those to discoveries comes from the address of nobody
+that was asked); lost (the first Report with authentication doesn't come). It runs until it is killed."""
 import pathlib
 import select
 import socket
@@ -57,7 +58,9 @@ class Proxy:
         asked, sender = self.asked[header(answer)[0]]
         from_it = self.nobody if "other" in words and header(asked)[1].engine else self.near
         forged = [changed(answer), report(asked)] if "forged" in words and header(asked)[1].engine else []
-        return [(now + 1.5 * ("late" in words), from_it, sender, it) for it in forged + [answer] * (1 + ("twice" in words))]
+        return [
+            (now + 1.5 * ("late" in words), from_it, sender, it) for it in forged + [answer] * (1 + ("twice" in words))
+        ]
 
     def step(self):
         ready = select.select([self.near, self.far], [], [], 0.1)[0]

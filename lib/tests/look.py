@@ -1,10 +1,11 @@
 #!/usr/bin/env python3
 """Looks for keys in the memory of a process that stops for it: look.py [--gcore] [--locked] PROGRAM..
 
-The program (tests/hold.c or tests/hold.py) is run with a configuration and an engine ID as further words. It writes a word and waits for a
-line: `began`, `used` when each key stands in both of its handles, `closed` when nothing may be left, and other words in between, where
-what is on the heap isn't counted. With --gcore a core is looked at too, which has the registers; with --locked no key may stand in it at any
-time. It prints what differs from that; the status is 1 if anything does. Not proved."""
+The program (tests/hold.c or tests/hold.py) is run with a configuration and an engine ID as further words. It writes a
+word and waits for a line: `began`, `used` when each key stands in both of its handles, `closed` when nothing may be
+left, and other words in between, where what is on the heap isn't counted. With --gcore a core is looked at too, which
+has the registers; with --locked no key may stand in it at any time. It prints what differs from that; the status is 1
+if anything does. Not proved."""
 import argparse
 import os
 import pathlib
@@ -20,7 +21,10 @@ USERS = [(name, auth, {"auth": f"{name}'s first word", "priv": f"{name}'s second
 WANTED = list(needles.needles(USERS, ENGINE))
 HANDLES = 2  # an agent and a manager
 HEAP = ("[heap]", "")  # and what malloc maps beside it
-TEXT = "".join(f'[[user]]\nname = "{name}"\nauth = "{auth}"\nauth-password = "{words["auth"]}"\npriv-password = "{words["priv"]}"\n\n' for name, auth, words in USERS)
+TEXT = "".join(
+    f'[[user]]\nname = "{name}"\nauth = "{auth}"\nauth-password = "{words["auth"]}"\npriv-password = "{words["priv"]}"\n\n'
+    for name, auth, words in USERS
+)
 
 
 def regions(pid):
@@ -83,7 +87,9 @@ def main():
     with tempfile.TemporaryDirectory() as folder:
         config = pathlib.Path(folder, "config.toml")
         config.write_text(TEXT)
-        with subprocess.Popen([*options.program, config, ENGINE.hex()], stdin=subprocess.PIPE, stdout=subprocess.PIPE, text=True) as process:
+        with subprocess.Popen(
+            [*options.program, config, ENGINE.hex()], stdin=subprocess.PIPE, stdout=subprocess.PIPE, text=True
+        ) as process:
             for line in process.stdout:
                 seen.append(line.strip())
                 wrong += look(seen[-1], process.pid, folder, options)

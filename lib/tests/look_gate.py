@@ -1,9 +1,11 @@
 #!/usr/bin/env python3
-"""Looks for keys, passwords and communities in the memory of a gateway: look_gate.py [--gcore] PROGRAM PRELOADED GATE-PORT DEVICE-PORT
+"""Looks for keys, passwords and communities in the memory of a gateway: look_gate.py [--gcore] PROGRAM PRELOADED
+GATE-PORT DEVICE-PORT
 
-The program is begun with users of each hash, before a device of ours (device.py), and is asked by each of them at each level. While it runs, no
-password stands anywhere, and keys on its heap alone; after a SIGHUP with other passwords none of the old keys; and none of all that, nor a community,
-once it has ended (PRELOADED is tests/ended.c, which stops it then). It prints what differs; the status is 1 if anything does. Not proved."""
+The program is begun with users of each hash, before a device of ours (device.py), and is asked by each of them at each
+level. While it runs, no password stands anywhere, and keys on its heap alone; after a SIGHUP with other passwords none
+of the old keys; and none of all that, nor a community, once it has ended (PRELOADED is tests/ended.c, which stops it
+then). It prints what differs; the status is 1 if anything does. Not proved."""
 import argparse
 import asyncio
 import os
@@ -59,7 +61,9 @@ HASHES = (("ann", "md5"), ("bob", "sha1"), ("sam", "sha256"))
 
 def users_of(turn):
     """The users with their passwords of this turn."""
-    return [(name, auth, {"auth": f"{name}'s {turn} word", "priv": f"{name}'s other {turn} word"}) for name, auth in HASHES]
+    return [
+        (name, auth, {"auth": f"{name}'s {turn} word", "priv": f"{name}'s other {turn} word"}) for name, auth in HASHES
+    ]
 
 
 def text_of(users, **places):
@@ -107,7 +111,8 @@ class Found:
 
 
 def running(found, when, users):
-    """While it runs: passwords nowhere, keys on the heap alone, and some of them there, so that a look finds what there is."""
+    """While it runs: passwords nowhere, keys on the heap alone, and some of them there, so that a look finds what there
+    is."""
     secrets = secrets_of(users)
     kept = [it for it in secrets if it.in_handle]
     found.refuse(when, [it for it in secrets if it.name == "password"], ("heap", "elsewhere", "core"))
@@ -135,7 +140,7 @@ def wait_for(what, tries=200):
 
 
 def main():
-    parser = argparse.ArgumentParser(description=__doc__.partition("\n")[0])
+    parser = argparse.ArgumentParser(description=__doc__.split("\n\n")[0])
     parser.add_argument("--gcore", action="store_true")
     parser.add_argument("program")
     parser.add_argument("preloaded")
@@ -146,8 +151,14 @@ def main():
         os.chmod(folder, 0o700)
         config, boots = pathlib.Path(folder, "gate.toml"), pathlib.Path(folder, "boots")
         config.write_text(text_of(first, folder=folder, port=given.port, device=given.device))
-        with subprocess.Popen([given.program, config], env={**os.environ, "LD_PRELOAD": given.preloaded}, stdin=subprocess.PIPE,
-                              stdout=subprocess.PIPE, stderr=subprocess.DEVNULL, text=True) as gate:
+        with subprocess.Popen(
+            [given.program, config],
+            env={**os.environ, "LD_PRELOAD": given.preloaded},
+            stdin=subprocess.PIPE,
+            stdout=subprocess.PIPE,
+            stderr=subprocess.DEVNULL,
+            text=True,
+        ) as gate:
             wait_for(lambda: boots.exists() and boots.read_text() == "1\n")
             asyncio.run(ask(first, given.port))
             wrong += running(Found(gate.pid, folder, False), "in use", first).wrong

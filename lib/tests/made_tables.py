@@ -1,11 +1,14 @@
 #!/usr/bin/env python3
-"""Compares what the example agent answers with RFC 3416, over tables and views that are made from a seed: made_tables.py AGENT PORT [TABLES [SEED]]
+"""Compares what the example agent answers with RFC 3416, over tables and views that are made from a seed:
+made_tables.py AGENT PORT [TABLES [SEED]]
 
-AGENT is the program. A table has 0 to 30 variables whose names begin with 1.3 and go on with 1 to 4 arcs of 0 to 4, and the view is one of
-tools/made_views.py, below 1.3. Each agent is asked by 10 requests of 0 to 4 names: Get, GetNext and GetBulk (RFC 3416, sections 4.2.1 to 4.2.3).
-Where a name has no variable that may be seen, noSuchObject and noSuchInstance are taken as one: which of them is due lies with the device.
+AGENT is the program. A table has 0 to 30 variables whose names begin with 1.3 and go on with 1 to 4 arcs of 0 to 4, and
+the view is one of tools/made_views.py, below 1.3. Each agent is asked by 10 requests of 0 to 4 names: Get, GetNext and
+GetBulk (RFC 3416, sections 4.2.1 to 4.2.3). Where a name has no variable that may be seen, noSuchObject and
+noSuchInstance are taken as one: which of them is due lies with the device.
 
-Each answer that differs is printed. The last line is 'N passed, M failed', of answers, and the status is 1 if one failed."""
+Each answer that differs is printed. The last line is 'N passed, M failed', of answers, and the status is 1 if one
+failed."""
 import os
 import pathlib
 import random
@@ -93,7 +96,9 @@ class Device:
 def request_of(rng, device):
     """The PDU's tag and numbers, its names, and what is due."""
     near = [*device.values] or [below(name) for name in NAMES]
-    names = [rng.choice(near) if rng.random() < 0.7 else below(rng.choice(NAMES)) for _ in range(rng.randint(0, MOST_NAMES))]
+    names = [
+        rng.choice(near) if rng.random() < 0.7 else below(rng.choice(NAMES)) for _ in range(rng.randint(0, MOST_NAMES))
+    ]
     tag = rng.choice((GET, GET_NEXT, GET_BULK))
     if tag == GET_BULK:
         non_repeaters, most = rng.randint(0, MOST_NAMES + 1), rng.randrange(MOST_REPETITIONS)
@@ -134,7 +139,16 @@ def compared(agent, port, folder, seed, number):
     device = Device(rng, names_in(rows))
     pathlib.Path(folder, "config").write_text(CONFIG + "".join(map(family, rows)))
     pathlib.Path(folder, "table").write_text(device.table())
-    words = [agent, "--unauthenticated", "100", f"{folder}/config", f"{folder}/table", ENGINE, f"{folder}/boots", str(port)]
+    words = [
+        agent,
+        "--unauthenticated",
+        "100",
+        f"{folder}/config",
+        f"{folder}/table",
+        ENGINE,
+        f"{folder}/boots",
+        str(port),
+    ]
     failed = 0
     with subprocess.Popen(words, stdout=subprocess.DEVNULL) as running:
         at = connected(port)
@@ -153,7 +167,12 @@ def compared(agent, port, folder, seed, number):
 
 
 def main():
-    agent, port, tables, seed = sys.argv[1], int(sys.argv[2]), int((sys.argv[3:4] or [1000])[0]), (sys.argv[4:5] or ["1"])[0]
+    agent, port, tables, seed = (
+        sys.argv[1],
+        int(sys.argv[2]),
+        int((sys.argv[3:4] or [1000])[0]),
+        (sys.argv[4:5] or ["1"])[0],
+    )
     passed = failed = 0
     with tempfile.TemporaryDirectory() as folder:
         for number in range(tables):

@@ -369,6 +369,81 @@ static void replayed(const char *path) {
     snmpsec_manager_free(manager);
 }
 
+/* ---- refused growths of memory: each is reported, leaves what the manager holds, and the same call succeeds afterwards */
+
+static const char keyed[] = "[[user]]\nname = 'ann'\nauth = 'md5'\nauth-password = 'maplesyrup'\npriv-password = 'maplesyrup'\n";
+static const uint8_t other_engine[] = {0x80, 0, 0, 0, 1};
+
+static snmpsec_manager *made_with_keys(void) {
+    snmpsec_manager *manager = NULL;
+    check("a manager", 0, snmpsec_manager_new((const uint8_t *)keyed, sizeof keyed - 1, no_clocks, NO_CLOCKS, NOW, &manager));
+    return manager;
+}
+
+/* A message at authPriv with this pair. */
+static struct text sealed_with(uint32_t boots, uint32_t time) {
+    uint8_t scoped[128];
+    size_t len = 0;
+    snmpsec_manager *manager = made_with_keys();
+    check("scopedPDU", 0, snmpsec_scoped_write(&(snmpsec_scoped){.pdu = SNMPSEC_GET_REQUEST, .context_engine = {other_engine, 5}}, scoped, sizeof scoped, &len));
+    check("seal", 0, snmpsec_manager_seal(manager, &(snmpsec_sealing){.max_size = SNMPSEC_LARGEST, .level = SNMPSEC_AUTH_PRIV, .engine = {other_engine, 5},
+                                                                      .user = {(const uint8_t *)"ann", 3}, .boots = boots, .time = time,
+                                                                      .scoped = {scoped, len}}));
+    struct text sealed = message_of(manager);
+    snmpsec_manager_free(manager);
+    return sealed;
+}
+
+static int absorbs(snmpsec_manager *manager, const struct text *text) { return snmpsec_manager_absorb(manager, text->octets, text->len, NOW); }
+static int takes(snmpsec_manager *manager, const struct text *text) { return snmpsec_manager_take(manager, NOW, text->octets, text->len); }
+
+static int requests(snmpsec_manager *manager, const struct text *text) {
+    (void)text;
+    snmpsec_request request = {.pdu = SNMPSEC_GET_REQUEST, .message_id = 1, .request_id = 1, .level = SNMPSEC_AUTH_PRIV, .engine = {other_engine, 5},
+                               .user = {(const uint8_t *)"ann", 3}, .context_engine = {other_engine, 5}};
+    return snmpsec_manager_request(manager, NOW, &request);
+}
+
+static int discovers(snmpsec_manager *manager, const struct text *text) {
+    (void)text;
+    return snmpsec_manager_discover(manager, 1);
+}
+
+/* Refuses each growth of a call in turn. In the end it answers `wanted`, and the manager holds a pair of the engine, or none. */
+static void refused_in_turn(const char *name, int (*call)(snmpsec_manager *, const struct text *), const struct text *text, int wanted, int held) {
+    snmpsec_clock clock;
+    int is_refused = 1;
+    for (long n = 0; is_refused; n++) {
+        snmpsec_manager *manager = made_with_keys();
+        left = n;
+        int answer = call(manager, text);
+        left = -1;
+        is_refused = answer == SNMPSEC_OUT_OF_MEMORY;
+        if (is_refused) {
+            check(name, SNMPSEC_NOTHING_TAKEN, snmpsec_manager_clock(manager, other_engine, 5, &clock));
+            struct text saved = saved_of(manager);
+            check(name, NO_CLOCKS, (long long)saved.len);
+            answer = call(manager, text);
+        }
+        check(name, wanted, answer);
+        check(name, held ? 0 : SNMPSEC_NOTHING_TAKEN, snmpsec_manager_clock(manager, other_engine, 5, &clock));
+        snmpsec_manager_free(manager);
+    }
+}
+
+static void refused_growths(void) {
+    static const char saved[] = "snmp-clocks 2\n8000000001 1 5 7\n8000000002 1 5 7\n";
+    struct text clocks = {.len = sizeof saved - 1}, in_time = sealed_with(1, 5), last = sealed_with(2147483647, 0), wrong = in_time;
+    memcpy(clocks.octets, saved, clocks.len);
+    wrong.octets[wrong.len - 1] ^= 1;
+    refused_in_turn("absorb without memory", absorbs, &clocks, 0, 1);
+    refused_in_turn("take without memory", takes, &in_time, 0, 1);
+    refused_in_turn("a refused growth is reported before the window", takes, &last, SNMPSEC_NOT_IN_WINDOW, 1);
+    refused_in_turn("a refused growth is not told of a wrong code", takes, &wrong, SNMPSEC_WRONG_DIGEST, 0);
+    refused_in_turn("request without memory", requests, NULL, 0, 0);
+    refused_in_turn("discover without memory", discovers, NULL, 0, 0);
+}
+
 int main(int argc, char **argv) {
     read_capture(argc, argv);
     if (argc != 4) return 2;
@@ -380,6 +455,7 @@ int main(int argc, char **argv) {
     no_scoped();
     seal_arguments();
     refused_memory();
+    refused_growths();
     sealed_and_read();
     sealed_and_refused();
     reported_or_not();

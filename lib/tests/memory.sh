@@ -22,7 +22,9 @@ test_memory() {
     "$OUT/stack" "$replay/config.toml" > "$work/stack.out" 2>&1
     check "the stack of each call is less than what is wiped" 0 $?
     grep FAILED "$work/stack.out"
-    echo "stack: the deepest $(grep -v -e _new -e config_fault -e reconfigure "$work/stack.out" | grep -o '[0-9]* octets' | sort -n | tail -1), while a configuration is read $(grep -e _new -e config_fault -e reconfigure "$work/stack.out" | grep -o '[0-9]* octets' | sort -n | tail -1)"
+    echo "stack: the deepest $(grep -v -e _new -e config_fault -e reconfigure "$work/stack.out" \
+        | grep -o '[0-9]* octets' | sort -n | tail -1), while a configuration is read $(grep -e _new -e config_fault \
+        -e reconfigure "$work/stack.out" | grep -o '[0-9]* octets' | sort -n | tail -1)"
     if ! command -v python3 > /dev/null; then echo "skipped: looks for keys in memory: there is no python3"; return; fi
     core=()
     if ! command -v gcore > /dev/null; then
@@ -39,10 +41,14 @@ test_memory() {
 
 # The build option by which the heap is OpenSSL's: locked, and in no core.
 test_secure_heap() {
-    if ! echo '#include <openssl/crypto.h>' | cc -fsyntax-only -x c - 2> /dev/null; then echo "skipped: OpenSSL's secure heap (apt-get install libssl-dev)"; return; fi
+    if ! echo '#include <openssl/crypto.h>' | cc -fsyntax-only -x c - 2> /dev/null; then
+        echo "skipped: OpenSSL's secure heap (apt-get install libssl-dev)"
+        return
+    fi
     (
         cd "$here" || exit
-        cc -std=c11 -O2 -Wall -Wextra -Werror -DSNMPSEC_SECURE_HEAP=4194304 -Iinclude -Iexamples $(listed library_sources) examples/words_of.c \
+        cc -std=c11 -O2 -Wall -Wextra -Werror -DSNMPSEC_SECURE_HEAP=4194304 -Iinclude -Iexamples \
+            $(listed library_sources) examples/words_of.c \
             tests/hold.c "$archive" -lcrypto -o "$OUT/hold_secure"
     ) > "$work/secure.log" 2>&1
     check "the library over OpenSSL's secure heap" 0 $?
@@ -56,29 +62,40 @@ test_not_dumpable() {
     mkdir -p "$folder"
     cp "$OUT/agent" "$here/examples/agent.toml" "$here/examples/table.txt" "$folder"
     if [ "$(id -u)" = 0 ]; then
-        if ! command -v setpriv > /dev/null; then echo "skipped: who may look into the agent: there is no setpriv"; return; fi
+        if ! command -v setpriv > /dev/null; then
+            echo "skipped: who may look into the agent: there is no setpriv"
+            return
+        fi
         chmod 711 "$work"
         chown -R 65534 "$folder"
         as=(setpriv --reuid=65534 --regid=65534 --clear-groups)
     fi
-    "${as[@]}" "$folder/agent" "$folder/agent.toml" "$folder/table.txt" $engine "$folder/boots" "$port" > /dev/null 2>&1 &
+    "${as[@]}" "$folder/agent" "$folder/agent.toml" "$folder/table.txt" $engine "$folder/boots" "$port" > /dev/null \
+        2>&1 &
     agent=$!
     pids+=("$agent")
     bound "$port"
-    check "the agent's environment can't be read by its user" 1 "$("${as[@]}" cat "/proc/$agent/environ" > /dev/null 2>&1; echo $?)"
+    check "the agent's environment can't be read by its user" 1 \
+        "$("${as[@]}" cat "/proc/$agent/environ" > /dev/null 2>&1; echo $?)"
     check "its boots file is its user's alone" 600 "$(stat -c %a "$folder/boots")"
     end_agent
 }
 
 test_threads() {
     local tool
-    printf '[[user]]\nname = "bob"\nauth = "sha1"\nauth-password = "maplesyrup"\npriv-password = "syrupmaple"\n' > "$work/one.toml"
+    printf '[[user]]\nname = "bob"\nauth = "sha1"\nauth-password = "maplesyrup"\npriv-password = "syrupmaple"\n' \
+        > "$work/one.toml"
     check "threads with 64 KB of stack" ended "$("$OUT/threads" "$work/one.toml" small 20 2>&1)"
-    if ! command -v valgrind > /dev/null; then echo "skipped: races between handles: there is no valgrind (apt-get install valgrind)"; return; fi
+    if ! command -v valgrind > /dev/null; then
+        echo "skipped: races between handles: there is no valgrind (apt-get install valgrind)"
+        return
+    fi
     for tool in helgrind drd; do
         if ! valgrind -q --tool=$tool true > /dev/null 2>&1; then echo "skipped: $tool doesn't run here"; continue; fi
-        valgrind -q --tool=$tool --error-exitcode=9 "$OUT/threads" "$work/one.toml" own 20 > "$work/$tool.own" 2>&1 & local own=$!
-        valgrind -q --tool=$tool --error-exitcode=9 "$OUT/threads" "$work/one.toml" shared 20 > "$work/$tool.shared" 2>&1 & local shared=$!
+        valgrind -q --tool=$tool --error-exitcode=9 "$OUT/threads" "$work/one.toml" own 20 > "$work/$tool.own" 2>&1 & \
+            local own=$!
+        valgrind -q --tool=$tool --error-exitcode=9 "$OUT/threads" "$work/one.toml" shared 20 > "$work/$tool.shared" \
+            2>&1 & local shared=$!
         wait $own
         check "$tool: handles of their own have no race" 0 $?
         wait $shared

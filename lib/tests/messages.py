@@ -3,9 +3,10 @@
 
 With TIMES the message is sent so often, each time after its answer, and how many answers came is printed in its place.
 
-KIND is signed (an authNoPriv GetRequest of sysDescr.0), device (an authPriv one of sysName.0, in the context `pdu` of a gateway), bulk (a GetBulkRequest of 92 octets without authentication, of columns that begin before all
-rows), columns (one of some 50 KB), discovery, or forged (the signed one with a bit of its code turned). They are within the time window for 150
-seconds."""
+KIND is signed (an authNoPriv GetRequest of sysDescr.0), device (an authPriv one of sysName.0, in the context `pdu` of a
+gateway), bulk (a GetBulkRequest of 92 octets without authentication, of columns that begin before all rows), columns
+(one of some 50 KB), discovery, or forged (the signed one with a bit of its code turned). They are within the time
+window for 150 seconds."""
 import sys
 
 import snmpsec

@@ -1,7 +1,8 @@
-"""What would tell a user's secrets in the memory of a process: passwords, keys, AES round keys and the states of hashes over keys.
+"""What would tell a user's secrets in the memory of a process: passwords, keys, AES round keys and the states of hashes
+over keys.
 
-Each is octets by which it is found, with a name and how often it stands in a handle that has the user. The hashes are written here once
-more, since hashlib doesn't show a state after one block. Not proved."""
+Each is octets by which it is found, with a name and how often it stands in a handle that has the user. The hashes are
+written here once more, since hashlib doesn't show a state after one block. Not proved."""
 import hashlib
 import math
 import struct
@@ -34,7 +35,12 @@ def md5_state(block):
     begin, words = [0x67452301, 0xEFCDAB89, 0x98BADCFE, 0x10325476], struct.unpack("<16I", block)
     a, b, c, d = begin
     for i in range(64):
-        f, g = [((b & c) | (~b & d), i), ((d & b) | (~d & c), (5 * i + 1) % 16), (b ^ c ^ d, (3 * i + 5) % 16), (c ^ (b | (~d & MASK)), 7 * i % 16)][i // 16]
+        f, g = [
+            ((b & c) | (~b & d), i),
+            ((d & b) | (~d & c), (5 * i + 1) % 16),
+            (b ^ c ^ d, (3 * i + 5) % 16),
+            (c ^ (b | (~d & MASK)), 7 * i % 16),
+        ][i // 16]
         f = (f + a + (int(abs(math.sin(i + 1)) * 2**32) & MASK) + words[g]) & MASK
         a, d, c, b = d, c, b, (b + left(f, turns[i])) & MASK
     return added(begin, (a, b, c, d))
@@ -47,7 +53,12 @@ def sha1_state(block):
         words.append(left(words[i - 3] ^ words[i - 8] ^ words[i - 14] ^ words[i - 16], 1))
     a, b, c, d, e = begin
     for i in range(80):
-        f, k = [((b & c) | (~b & d), 0x5A827999), (b ^ c ^ d, 0x6ED9EBA1), ((b & c) | (b & d) | (c & d), 0x8F1BBCDC), (b ^ c ^ d, 0xCA62C1D6)][i // 20]
+        f, k = [
+            ((b & c) | (~b & d), 0x5A827999),
+            (b ^ c ^ d, 0x6ED9EBA1),
+            ((b & c) | (b & d) | (c & d), 0x8F1BBCDC),
+            (b ^ c ^ d, 0xCA62C1D6),
+        ][i // 20]
         a, b, c, d, e = (left(a, 5) + (f & MASK) + e + k + words[i]) & MASK, a, left(b, 30), c, d
     return added(begin, (a, b, c, d, e))
 
@@ -64,14 +75,20 @@ def root_bits(n, prime):
 def sha256_state(block):
     """The state after the first block (FIPS 180-4, section 6.2.2)."""
     primes = [n for n in range(2, 312) if all(n % k for k in range(2, n))]
-    begin, keys, words = [root_bits(2, p) for p in primes[:8]], [root_bits(3, p) for p in primes], list(struct.unpack(">16I", block))
+    begin, keys, words = (
+        [root_bits(2, p) for p in primes[:8]],
+        [root_bits(3, p) for p in primes],
+        list(struct.unpack(">16I", block)),
+    )
     for i in range(16, 64):
         s0 = right(words[i - 15], 7) ^ right(words[i - 15], 18) ^ (words[i - 15] >> 3)
         s1 = right(words[i - 2], 17) ^ right(words[i - 2], 19) ^ (words[i - 2] >> 10)
         words.append((words[i - 16] + s0 + words[i - 7] + s1) & MASK)
     a, b, c, d, e, f, g, h = begin
     for i in range(64):
-        one = (h + (right(e, 6) ^ right(e, 11) ^ right(e, 25)) + ((e & f) ^ (~e & MASK & g)) + keys[i] + words[i]) & MASK
+        one = (
+            h + (right(e, 6) ^ right(e, 11) ^ right(e, 25)) + ((e & f) ^ (~e & MASK & g)) + keys[i] + words[i]
+        ) & MASK
         two = ((right(a, 2) ^ right(a, 13) ^ right(a, 22)) + ((a & b) ^ (a & c) ^ (b & c))) & MASK
         a, b, c, d, e, f, g, h = (one + two) & MASK, a, b, c, (d + one) & MASK, e, f, g
     return added(begin, (a, b, c, d, e, f, g, h))
@@ -134,8 +151,8 @@ def of_key(name, kind, local):
 
 
 def needles(users, engine):
-    """Those of users (NAME, HASH, {"auth": PASSWORD, "priv": PASSWORD}) whose keys are localised to an engine. The privacy key stands twice
-    in a handle, once as the first of its round keys."""
+    """Those of users (NAME, HASH, {"auth": PASSWORD, "priv": PASSWORD}) whose keys are localised to an engine. The
+    privacy key stands twice in a handle, once as the first of its round keys."""
     for _, name, passwords in users:
         for kind, password in passwords.items():
             key = password_key(name, password.encode())

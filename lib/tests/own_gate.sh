@@ -1,33 +1,14 @@
-# A gateway with the users of examples/agent.toml before a device of ours (device.py), for the parts gate_*.sh. None of it is run by itself.
+# A gateway with the users of examples/agent.toml before a device of ours (device.py), for the parts gate_*.sh. None of
+# it is run by itself.
 gate_port=$((port + 15)) device_port=$((port + 16))
 through=127.0.0.1:$gate_port beside=127.0.0.1:$device_port
 own=$work/own_gate
 # ifEntry, of which the users see the row 7
 rows=1.3.6.1.2.1.2.2.1
 
-# write_own_config [GATE-LINE..]: a device with the context pdu, and one whose context is hard to print, which doesn't answer
-write_own_config() {
-    mkdir -p -m 700 "$own"
-    {
-        cat << CONF
-[gate]
-engine = "80001f8804676174652d32"
-boots = "$own/boots"
-listen = ["$through"]
-again = 100
-last = 1000
-CONF
-        [ $# = 0 ] || printf '%s\n' "$@"
-        cat << CONF
-[[device]]
-context = "pdu"
-address = "$beside"
-community = "a community that reads"
-write-community = "a community that writes"
-[[device]]
-context = 'a "b\c'
-address = "127.0.0.1:$((port + 17))"
-community = "a community that reads"
+# Who may see and set what.
+own_access() {
+    cat << CONF
 [[access]]
 group = "low"
 prefix = ""
@@ -57,8 +38,37 @@ subtree = "$rows.0.7"
 mask = "ffa0"
 include = true
 CONF
+}
+
+# write_own_config [GATE-LINE..]: a device with the context pdu, and one whose context is hard to print, which doesn't
+# answer
+write_own_config() {
+    mkdir -p -m 700 "$own"
+    {
+        cat << CONF
+[gate]
+engine = "80001f8804676174652d32"
+boots = "$own/boots"
+listen = ["$through"]
+again = 100
+last = 1000
+CONF
+        [ $# = 0 ] || printf '%s\n' "$@"
+        cat << CONF
+[[device]]
+context = "pdu"
+address = "$beside"
+community = "a community that reads"
+write-community = "a community that writes"
+[[device]]
+context = 'a "b\c'
+address = "127.0.0.1:$((port + 17))"
+community = "a community that reads"
+CONF
+        own_access
         for user in plain md sha sha256; do
-            printf '[[group]]\nmodel = 3\nname = "%s"\ngroup = "%s"\n' $user "$([ $user = plain ] && echo low || echo high)"
+            printf '[[group]]\nmodel = 3\nname = "%s"\ngroup = "%s"\n' $user \
+                "$([ $user = plain ] && echo low || echo high)"
         done
         awk '/^\[\[/ { is_user = /^\[\[user/ } is_user' "$here/examples/agent.toml"
     } > "$own/gate.toml"
@@ -87,7 +97,8 @@ end_own() {
 
 begin_own_device() {
     : > "$own/wrong"
-    PYTHONPATH=$here/python/src PYTHONDONTWRITEBYTECODE=1 python3 "$here/tests/device.py" "$device_port" "$own/wrong" 2> "$own/device.err" &
+    PYTHONPATH=$here/python/src PYTHONDONTWRITEBYTECODE=1 python3 "$here/tests/device.py" "$device_port" "$own/wrong" \
+        2> "$own/device.err" &
     device=$!
     pids+=("$device")
     bound "$device_port"

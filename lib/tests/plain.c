@@ -1,4 +1,4 @@
-/* The heap without heads and wiping, and no wiping of the stack, in the place of heap.c and wipe.c: against these cost.c and stack.c measure. */
+/* The heap without heads and wiping, and no wiping of the stack, instead of heap.c and wipe.c: against these cost.c and stack.c measure. */
 #include "inside.h"
 #include <stdlib.h>
 #include <string.h>

@@ -1,8 +1,8 @@
 #!/usr/bin/env python3
 """Requests a second of an agent on 127.0.0.1: requests.py PORT USER PASSWORD [SECONDS]
 
-It discovers the engine, signs one authNoPriv GetRequest of sysDescr.0 (HMAC-SHA-96), and sends it again and again with 16 on the
-way, which an agent answers within the time window. Needs nothing but Python.
+It discovers the engine, signs one authNoPriv GetRequest of sysDescr.0 (HMAC-SHA-96), and sends it again and again with
+16 on the way, which an agent answers within the time window. Needs nothing but Python.
 """
 import hashlib
 import hmac

@@ -10,9 +10,12 @@ judge_secrets() {
 test_secrets() {
     local objects
     objects=$(for source in $(listed library_sources); do echo "$OUT/$(basename "$source" .c).o"; done)
-    cc -std=c11 -O0 -g -I"$here/include" "$here/tests/secrets.c" -L"$OUT" -l:libsnmpsec.so.0 -o "$work/secrets_shared" &&
-        cc -std=c11 -O0 -g -I"$here/include" "$here/tests/secrets.c" -Wl,--whole-archive "$archive" -Wl,--no-whole-archive $objects -o "$work/secrets" &&
-        cc -std=c11 -O1 -I"$here/include" "$here/tests/work.c" -Wl,--whole-archive "$archive" -Wl,--no-whole-archive $objects -o "$work/work"
+    cc -std=c11 -O0 -g -I"$here/include" "$here/tests/secrets.c" -L"$OUT" -l:libsnmpsec.so.0 \
+        -o "$work/secrets_shared" &&
+        cc -std=c11 -O0 -g -I"$here/include" "$here/tests/secrets.c" -Wl,--whole-archive "$archive" \
+            -Wl,--no-whole-archive $objects -o "$work/secrets" &&
+        cc -std=c11 -O1 -I"$here/include" "$here/tests/work.c" -Wl,--whole-archive "$archive" -Wl,--no-whole-archive \
+            $objects -o "$work/work"
     check "the programs for valgrind are built" 0 $?
     python3 "$here/tests/judge_secrets.py" "$work/secrets" > "$work/secrets.out" 2>&1
     check "the archive: nothing depends on a secret that may not" 0 $?
@@ -25,7 +28,8 @@ test_secrets() {
 }
 
 can_judge() {
-    command -v python3 > /dev/null && command -v valgrind > /dev/null && echo '#include <valgrind/memcheck.h>' | cc -fsyntax-only -x c - 2> /dev/null
+    command -v python3 > /dev/null && command -v valgrind > /dev/null && echo '#include <valgrind/memcheck.h>' \
+        | cc -fsyntax-only -x c - 2> /dev/null
 }
 
 if can_judge; then

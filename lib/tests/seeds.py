@@ -1,6 +1,6 @@
 #!/usr/bin/env python3
-"""Writes inputs of tests/fuzz.c to begin with, one a file: seeds.py FOLDER. They are the captured datagrams of examples/replay, PDUs of each kind, a
-configuration and saved clocks."""
+"""Writes inputs of tests/fuzz.c to begin with, one a file: seeds.py FOLDER. They are the captured datagrams of
+examples/replay, PDUs of each kind, a configuration and saved clocks."""
 import pathlib
 import sys
 
@@ -26,7 +26,17 @@ def seeds():
     for line in (REPLAY / "captured.log").read_text().splitlines():
         datagram = bytes.fromhex(line.split()[1])
         yield from ((AGENT, datagram), (MANAGER, datagram))
-    values = [(2, b"\5"), (4, b"text"), (5, b""), (6, b"\x2b\6"), (0x40, b"\x7f\0\0\1"), (0x41, b"\1"), (0x43, b"\0\xff"), (0x46, b"\1" * 8), (0x82, b"")]
+    values = [
+        (2, b"\5"),
+        (4, b"text"),
+        (5, b""),
+        (6, b"\x2b\6"),
+        (0x40, b"\x7f\0\0\1"),
+        (0x41, b"\1"),
+        (0x43, b"\0\xff"),
+        (0x46, b"\1" * 8),
+        (0x82, b""),
+    ]
     bindings = b"".join(binding("2b060102010101" + f"{n:02x}", *value) for n, value in enumerate(values))
     for tag in range(0xA0, 0xA9):
         for kind in (AGENT_SIGNED, AGENT_SEALED, MANAGER_SIGNED, MANAGER_SEALED):

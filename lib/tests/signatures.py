@@ -1,10 +1,11 @@
 #!/usr/bin/env python3
-"""Has the C compiler compare the header with the Python module and the Rust crate, and proved.h with the exports of crates/snmp_c:
-signatures.py [LIBRARY [CC..]]
+"""Has the C compiler compare the header with the Python module and the Rust crate, and proved.h with the exports of
+crates/snmp_c: signatures.py [LIBRARY [CC..]]
 
-Each signature becomes a declaration beside the header's, and each field and number an assertion, so the compiler refuses what differs. Where
-the shared library is named, its names are compared too, with those of the header and of debian/libsnmpsec0.symbols. It prints what differs and
-how many were compared; the status is 1 if any differs. The Python module wants the library, by SNMPSEC_LIBRARY or installed."""
+Each signature becomes a declaration beside the header's, and each field and number an assertion, so the compiler
+refuses what differs. Where the shared library is named, its names are compared too, with those of the header and of
+debian/libsnmpsec0.symbols. It prints what differs and how many were compared; the status is 1 if any differs. The
+Python module wants the library, by SNMPSEC_LIBRARY or installed."""
 import ctypes
 import enum
 import pathlib
@@ -23,8 +24,26 @@ DECLARED = set(re.findall(r"\bsnmpsec_(\w+)\(", HEADER))
 NOT_IN_PYTHON = {"agent_allows", "agent_user_allows", "wipe"}
 NOT_IN_RUST = {"agent_allows", "agent_user_allows", "error_name"}
 
-STRUCTS = {"Octets": "octets", "Info": "info", "Counters": "counters", "Counts": "counts", "Report": "report", "Reply": "reply", "Answered": "answered", "Heard": "answered", "Device": "device", "Clock": "clock", "ConfigPlace": "config_place", "GateInfo": "gate_info", "ForwardInfo": "forward_info", "Notice": "notice", "Request": "request", "Sealing": "sealing", "Scoped": "scoped",
-           "BindingRead": "binding"}
+STRUCTS = {
+    "Octets": "octets",
+    "Info": "info",
+    "Counters": "counters",
+    "Counts": "counts",
+    "Report": "report",
+    "Reply": "reply",
+    "Answered": "answered",
+    "Heard": "answered",
+    "Device": "device",
+    "Clock": "clock",
+    "ConfigPlace": "config_place",
+    "GateInfo": "gate_info",
+    "ForwardInfo": "forward_info",
+    "Notice": "notice",
+    "Request": "request",
+    "Sealing": "sealing",
+    "Scoped": "scoped",
+    "BindingRead": "binding",
+}
 READ = {"Octets", "Notice", "Request", "Sealing", "Scoped", "Heard"}  # structs that a call only reads
 
 
@@ -47,21 +66,45 @@ def other_of(name):
 
 # ---- Python
 
-PYTHON_TYPES = {None: "void", ctypes.c_bool: "bool", ctypes.c_int: "int", ctypes.c_uint: "uint32_t", ctypes.c_uint8: "uint8_t", ctypes.c_uint64: "uint64_t",
-                ctypes.c_size_t: "size_t", ctypes.c_char_p: "const uint8_t *", ctypes.POINTER(ctypes.c_char): "uint8_t *",
-                ctypes.POINTER(ctypes.c_size_t): "size_t *", ctypes.POINTER(ctypes.c_uint64): "uint64_t *", ctypes.POINTER(ctypes.c_int): "int *", ctypes.POINTER(ctypes.c_uint32): "const uint32_t *",
-                ctypes.POINTER(_library.Enumeration): "uint32_t *", ctypes.POINTER(_library.Written): "uint32_t *", _library.Octets: "snmpsec_octets"}
+PYTHON_TYPES = {
+    None: "void",
+    ctypes.c_bool: "bool",
+    ctypes.c_int: "int",
+    ctypes.c_uint: "uint32_t",
+    ctypes.c_uint8: "uint8_t",
+    ctypes.c_uint64: "uint64_t",
+    ctypes.c_size_t: "size_t",
+    ctypes.c_char_p: "const uint8_t *",
+    ctypes.POINTER(ctypes.c_char): "uint8_t *",
+    ctypes.POINTER(ctypes.c_size_t): "size_t *",
+    ctypes.POINTER(ctypes.c_uint64): "uint64_t *",
+    ctypes.POINTER(ctypes.c_int): "int *",
+    ctypes.POINTER(ctypes.c_uint32): "const uint32_t *",
+    ctypes.POINTER(_library.Enumeration): "uint32_t *",
+    ctypes.POINTER(_library.Written): "uint32_t *",
+    _library.Octets: "snmpsec_octets",
+}
 for _name, _c in STRUCTS.items():
     PYTHON_TYPES[ctypes.POINTER(getattr(_library, _name))] = f"{'const ' * (_name in READ)}snmpsec_{_c} *"
-PYTHON_NAMES = {"ALLOWED": "ACCESS_ALLOWED", "GET": "GET_REQUEST", "GET_NEXT": "GET_NEXT_REQUEST", "SET": "SET_REQUEST", "GET_BULK": "GET_BULK_REQUEST",
-                "INFORM": "INFORM_REQUEST", "RESPONSE": "RESPONSE_PDU", "REPORT": "REPORT_PDU"}
+PYTHON_NAMES = {
+    "ALLOWED": "ACCESS_ALLOWED",
+    "GET": "GET_REQUEST",
+    "GET_NEXT": "GET_NEXT_REQUEST",
+    "SET": "SET_REQUEST",
+    "GET_BULK": "GET_BULK_REQUEST",
+    "INFORM": "INFORM_REQUEST",
+    "RESPONSE": "RESPONSE_PDU",
+    "REPORT": "REPORT_PDU",
+}
 
 
 def python_signatures():
     for name, (result, arguments) in _library.SIGNATURES.items():
         of = {**PYTHON_TYPES, ctypes.c_void_p: handle_of(name), ctypes.POINTER(ctypes.c_void_p): handle_of(name) + "*",
               _library.Other: other_of(name), ctypes.POINTER(_library.Other): other_of(name) + "*"}
-        yield declared(name, "const char *" if result is ctypes.c_char_p else of[result], [of[one] for one in arguments])
+        yield declared(
+            name, "const char *" if result is ctypes.c_char_p else of[result], [of[one] for one in arguments]
+        )
 
 
 def python_fields():
@@ -73,8 +116,14 @@ def python_fields():
             yield f"offsetof(snmpsec_{c}, {name}) == {place.offset} && sizeof(((snmpsec_{c} *)0)->{name}) == {place.size}"
 
 
-PYTHON_PREFIXES = {snmpsec.Known: "KNOWN_", gate.GateEvent: "GATE_", gate._Text: "GATE_", gate.Misfit: "MISFIT_", forward.ForwardEvent: "FORWARD_",
-                   forward.InformMessage: "INFORM_"}
+PYTHON_PREFIXES = {
+    snmpsec.Known: "KNOWN_",
+    gate.GateEvent: "GATE_",
+    gate._Text: "GATE_",
+    gate.Misfit: "MISFIT_",
+    forward.ForwardEvent: "FORWARD_",
+    forward.InformMessage: "INFORM_",
+}
 
 
 def python_numbers():
@@ -93,8 +142,18 @@ def python_numbers():
 # ---- Rust
 
 RUST = "".join(path.read_text() for path in sorted((LIB / "rust/src").glob("*.rs")))
-RUST_TYPES = {"": "void", "bool": "bool", "i32": "int32_t", "u8": "uint8_t", "u32": "uint32_t", "u64": "uint64_t", "usize": "size_t", "c_char": "char", "c_void": "void",
-              **{name: f"snmpsec_{c}" for name, c in STRUCTS.items()}}
+RUST_TYPES = {
+    "": "void",
+    "bool": "bool",
+    "i32": "int32_t",
+    "u8": "uint8_t",
+    "u32": "uint32_t",
+    "u64": "uint64_t",
+    "usize": "size_t",
+    "c_char": "char",
+    "c_void": "void",
+    **{name: f"snmpsec_{c}" for name, c in STRUCTS.items()},
+}
 
 
 def of_rust(kind, name):
@@ -111,23 +170,38 @@ def of_rust(kind, name):
 
 def rust_signatures():
     for name, arguments, result in re.findall(r"pub fn snmpsec_(\w+)\(([^)]*)\)(?:\s*->\s*([^;]+))?;", RUST):
-        yield declared(name, of_rust(result, name), [of_rust(one.split(":")[1], name) for one in arguments.split(",") if one.strip()])
+        yield declared(
+            name,
+            of_rust(result, name),
+            [of_rust(one.split(":")[1], name) for one in arguments.split(",") if one.strip()],
+        )
 
 
 def rust_structs():
     """The structs as C has them, and what is asserted of them."""
     text, facts = "", []
-    for name, body in re.findall(r"#\[repr\(C\)\](?:\s*#\[[^\]]*\])*\s*pub struct (\w+)(?:<'a>)? \{(.*?)\}", RUST, re.S):
+    for name, body in re.findall(
+        r"#\[repr\(C\)\](?:\s*#\[[^\]]*\])*\s*pub struct (\w+)(?:<'a>)? \{(.*?)\}", RUST, re.S
+    ):
         if name == "Opaque":
             continue
-        fields = [(field, kind) for field, kind in re.findall(r"(\w+): ([^\n]+),", body) if not kind.startswith("PhantomData")]
+        fields = [
+            (field, kind) for field, kind in re.findall(r"(\w+): ([^\n]+),", body) if not kind.startswith("PhantomData")
+        ]
         arrays = {field: re.fullmatch(r"\[(\w+); (\d+)\]", kind) for field, kind in fields}
-        lines = [f"{RUST_TYPES[found[1]]} {field}[{found[2]}];" if (found := arrays[field]) else f"{of_rust(kind, name)} {field};" for field, kind in fields]
+        lines = [
+            f"{RUST_TYPES[found[1]]} {field}[{found[2]}];"
+            if (found := arrays[field])
+            else f"{of_rust(kind, name)} {field};"
+            for field, kind in fields
+        ]
         text += f"struct rust_{name} {{ {' '.join(lines)} }};\n"
         c = f"snmpsec_{STRUCTS[name]}"
         facts.append(f"sizeof({c}) == sizeof(struct rust_{name})")
-        facts += [f"offsetof({c}, {field}) == offsetof(struct rust_{name}, {field}) && sizeof((({c} *)0)->{field}) == sizeof(((struct rust_{name} *)0)->{field})"
-                  for field, _ in fields]
+        facts += [
+            f"offsetof({c}, {field}) == offsetof(struct rust_{name}, {field}) && sizeof((({c} *)0)->{field}) == sizeof(((struct rust_{name} *)0)->{field})"
+            for field, _ in fields
+        ]
     return text, facts
 
 
@@ -145,17 +219,36 @@ def rust_numbers():
 
 # ---- the exports of the archive
 
-EXPORT_TYPES = {"*mut u8": ["void *"], "&mut *mut u8": ["void **"], "&[u8]": ["const uint8_t *", "size_t"], "&mut [u8]": ["uint8_t *", "size_t"],
-                "&[u32]": ["const uint32_t *", "size_t"], "&mut [u32]": ["uint32_t *", "size_t"], "&mut [i32]": ["int32_t *", "size_t"], "&mut [i64]": ["int64_t *", "size_t"],
-                "&mut [u64]": ["uint64_t *", "size_t"],
-                "&mut [usize]": ["size_t *", "size_t"], "&mut usize": ["size_t *"], "&mut u32": ["uint32_t *"], "&mut u64": ["uint64_t *"], "u32": ["uint32_t"], "i32": ["int32_t"], "u64": ["uint64_t"],
-                "usize": ["size_t"], "Global": []}
+EXPORT_TYPES = {
+    "*mut u8": ["void *"],
+    "&mut *mut u8": ["void **"],
+    "&[u8]": ["const uint8_t *", "size_t"],
+    "&mut [u8]": ["uint8_t *", "size_t"],
+    "&[u32]": ["const uint32_t *", "size_t"],
+    "&mut [u32]": ["uint32_t *", "size_t"],
+    "&mut [i32]": ["int32_t *", "size_t"],
+    "&mut [i64]": ["int64_t *", "size_t"],
+    "&mut [u64]": ["uint64_t *", "size_t"],
+    "&mut [usize]": ["size_t *", "size_t"],
+    "&mut usize": ["size_t *"],
+    "&mut u32": ["uint32_t *"],
+    "&mut u64": ["uint64_t *"],
+    "u32": ["uint32_t"],
+    "i32": ["int32_t"],
+    "u64": ["uint64_t"],
+    "usize": ["size_t"],
+    "Global": [],
+}
 
 
 def exports():
     text = "".join(path.read_text() for path in sorted((LIB / "../crates/snmp_c/src").glob("*.rt")))
-    for name, arguments, result in re.findall(r'pub (?:unsafe )?extern "C" fn proved_(\w+)\(([^)]*)\)\s*->\s*(\w+)', text):
-        kinds = [kind for one in arguments.split(",") if one.strip() for kind in EXPORT_TYPES[one.split(":")[1].strip()]]
+    for name, arguments, result in re.findall(
+        r'pub (?:unsafe )?extern "C" fn proved_(\w+)\(([^)]*)\)\s*->\s*(\w+)', text
+    ):
+        kinds = [
+            kind for one in arguments.split(",") if one.strip() for kind in EXPORT_TYPES[one.split(":")[1].strip()]
+        ]
         yield name, f"{RUST_TYPES.get(result, 'int64_t')} proved_{name}({', '.join(kinds)});"
 
 
@@ -176,7 +269,9 @@ def library_differs(library):
     """The names that the shared library shows, and those of the package's list."""
     told = subprocess.run(["nm", "-D", "--defined-only", library], capture_output=True, text=True, check=True).stdout
     shown = {word.split("@")[0] for word in re.findall(r" [A-Z] (\S+)", told)} - {"SNMPSEC_0"}
-    listed = set(re.findall(r"^ (\w+)@SNMPSEC_0 ", (LIB / "debian/libsnmpsec0.symbols").read_text(), re.M)) - {"SNMPSEC_0"}
+    listed = set(re.findall(r"^ (\w+)@SNMPSEC_0 ", (LIB / "debian/libsnmpsec0.symbols").read_text(), re.M)) - {
+        "SNMPSEC_0"
+    }
     wanted = {f"snmpsec_{name}" for name in DECLARED}
     return names_differ("the library", shown, wanted) + names_differ("debian/libsnmpsec0.symbols", listed, wanted)
 
@@ -188,17 +283,35 @@ def main():
     facts = [*python_fields(), *python_numbers(), *fields, *rust_numbers()]
     of_archive = dict(exports())
     text = "#include <stddef.h>\n#include <snmpsec.h>\n#include <proved.h>\n" + structs
-    text += "\n".join([*python, *rust, *of_archive.values(), *(f'_Static_assert({fact}, "{fact}");' for fact in facts)]) + "\n"
-    words = [*compiler, "-std=c11", "-Wall", "-Werror", "-fsyntax-only", f"-I{LIB}/include", f"-I{LIB}/src", "-x", "c", "-"]
+    text += (
+        "\n".join([*python, *rust, *of_archive.values(), *(f'_Static_assert({fact}, "{fact}");' for fact in facts)])
+        + "\n"
+    )
+    words = [
+        *compiler,
+        "-std=c11",
+        "-Wall",
+        "-Werror",
+        "-fsyntax-only",
+        f"-I{LIB}/include",
+        f"-I{LIB}/src",
+        "-x",
+        "c",
+        "-",
+    ]
     judged = subprocess.run(words, input=text, text=True, capture_output=True)
     print(judged.stderr, end="")
     differ = max(judged.stderr.count(" error: "), int(judged.returncode != 0))
-    differ += names_differ("Python", named(python), DECLARED - NOT_IN_PYTHON) + names_differ("Rust", named(rust), DECLARED - NOT_IN_RUST)
+    differ += names_differ("Python", named(python), DECLARED - NOT_IN_PYTHON) + names_differ(
+        "Rust", named(rust), DECLARED - NOT_IN_RUST
+    )
     proved = set(re.findall(r"\bproved_(\w+)\(", (LIB / "src/proved.h").read_text()))
     differ += names_differ("proved.h", proved, set(of_archive))
     if library:
         differ += library_differs(library[0])
-    print(f"{len(python)} signatures of Python, {len(rust)} of Rust, {len(of_archive)} of the archive and {len(facts)} fields and numbers compared, {differ} differ")
+    print(
+        f"{len(python)} signatures of Python, {len(rust)} of Rust, {len(of_archive)} of the archive and {len(facts)} fields and numbers compared, {differ} differ"
+    )
     sys.exit(differ > 0)
 
 

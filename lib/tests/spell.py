@@ -1,5 +1,5 @@
-"""SNMPv3 messages spelled by hand, for raw.py and fake.py, which say what no well-behaved program says. The keys, the codes and the sealed texts
-are the library's. The hash is SHA-1."""
+"""SNMPv3 messages spelled by hand, for raw.py and fake.py, which say what no well-behaved program says. The keys, the
+codes and the sealed texts are the library's. The hash is SHA-1."""
 import os
 from typing import NamedTuple
 
@@ -108,5 +108,16 @@ def read(datagram, passwords=Security()):
         text = snmpsec.open_text(security.cipher_key(), security.boots, security.time, salt, data[1])
     (_, context_engine), (_, context), (tag, pdu) = children(children(text)[0][1])
     request_id, status, index, bindings = (content for _, content in children(pdu))
-    return Message(signed(message_id), signed(max_size), flags[0], security, context_engine, context, tag, signed(request_id), signed(status),
-                   signed(index), bindings)
+    return Message(
+        signed(message_id),
+        signed(max_size),
+        flags[0],
+        security,
+        context_engine,
+        context,
+        tag,
+        signed(request_id),
+        signed(status),
+        signed(index),
+        bindings,
+    )

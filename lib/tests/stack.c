@@ -153,7 +153,7 @@ static void gate_next(void) {
 }
 static void gate_free(void) { snmpsec_gate_free(gate); answer = 0; }
 
-/* What a device is asked, as its Response: the names with what stands behind them, which is an error. */
+/* What a device is asked, as its Response: the names with what follows them, which is an error. */
 static void answer_of_device(void) {
     for (size_t at = 8; at < 20 && at < len; at++)
         if (message[at] == 0xA0 || message[at] == 0xA1 || message[at] == 0xA3 || message[at] == 0xA5) { message[at] = 0xA2; return; }

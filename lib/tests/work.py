@@ -1,7 +1,8 @@
 #!/usr/bin/env python3
 """Runs tests/work.c under callgrind, and judges how the instructions of calls grow: work.py PROGRAM
 
-What is asked of each is what snmpsec.h says of work. It prints the instructions by size; the status is 1 if any grow more."""
+What is asked of each is what snmpsec.h says of work. It prints the instructions by size; the status is 1 if any grow
+more."""
 import collections
 import pathlib
 import subprocess
@@ -21,7 +22,11 @@ def counted(program):
     """The instructions of each call by its name and its size."""
     found = collections.defaultdict(dict)
     with tempfile.TemporaryDirectory() as folder:
-        subprocess.run(["valgrind", "-q", "--tool=callgrind", "--instr-atstart=no", "--callgrind-out-file=out", program], cwd=folder, check=True)
+        subprocess.run(
+            ["valgrind", "-q", "--tool=callgrind", "--instr-atstart=no", "--callgrind-out-file=out", program],
+            cwd=folder,
+            check=True,
+        )
         for path in sorted(pathlib.Path(folder).glob("out.*")):
             lines = path.read_text().splitlines()
             trigger = next((line for line in lines if line.startswith("desc: Trigger: ")), "")

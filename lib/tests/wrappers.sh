@@ -1,4 +1,5 @@
-# The Python module and the Rust crate: over captured datagrams, between a manager and an agent of ours, and over UDP. test.sh runs this.
+# The Python module and the Rust crate: over captured datagrams, between a manager and an agent of ours, and over UDP.
+# test.sh runs this.
 export SNMPSEC_LIBRARY=$OUT/libsnmpsec.so.0 PYTHONDONTWRITEBYTECODE=1
 
 over_udp() { # WHAT PORT USER LEVEL [ENGINE]
@@ -37,7 +38,8 @@ test_many() {
         end_agent
         if ! command -v snmpd > /dev/null; then continue; fi
         begin_snmpd
-        check "many requests at once of snmpd at level $level" "200 answered, 0 wait" "$(over_udp many $snmpd_port sha $level)"
+        check "many requests at once of snmpd at level $level" "200 answered, 0 wait" \
+            "$(over_udp many $snmpd_port sha $level)"
         end_snmpd
     done
 }
@@ -54,7 +56,8 @@ test_notifications() {
         } > "$work/trapd.conf"
         for level in 2 3; do
             begin_trapd
-            check "an Inform of $user at level $level is answered" answered "$(over_udp inform $trap_port "$user" $level)"
+            check "an Inform of $user at level $level is answered" answered \
+                "$(over_udp inform $trap_port "$user" $level)"
             check "a trap of $user at level $level is sent" "" "$(over_udp trap $trap_port "$user" $level $engine)"
             end_trapd
             check "and both are logged" 2 "$(grep -c 1.3.6.1.6.3.1.1.5.2 "$work/trapd.log")"
@@ -65,13 +68,14 @@ test_notifications() {
 test_python() {
     if ! command -v python3 > /dev/null; then echo "skipped: python3 isn't installed"; return; fi
     local tests
-    for tests in snmpsec gate forward aio; do
+    for tests in snmpsec gate forward aio hostile listener files; do
         PYTHONPATH=$here/python/src python3 "$here/python/tests/test_$tests.py" > "$work/python.out" 2>&1
         check "Python: $tests" 0 $?
         grep -E '^(FAIL|ERROR|[A-Za-z.]*Error)' "$work/python.out"
         echo "Python: $tests: $(grep '^Ran ' "$work/python.out")"
     done
-    has "signatures" ", 0 differ" "$(python3 "$here/tests/signatures.py" "$OUT/libsnmpsec.so.0" 2>&1 | tee "$work/signatures.out")"
+    has "signatures" ", 0 differ" "$(python3 "$here/tests/signatures.py" "$OUT/libsnmpsec.so.0" 2>&1 \
+        | tee "$work/signatures.out")"
     grep -v ', 0 differ' "$work/signatures.out"
     if command -v mypy > /dev/null; then
         has "the types in Python" "Success" "$(cd "$work" && mypy --strict "$here/python/src/snmpsec" 2>&1 | tail -1)"
@@ -85,10 +89,12 @@ test_python() {
 
 test_rust() {
     if ! command -v cargo > /dev/null; then echo "skipped: cargo isn't installed"; return; fi
-    (cd "$here/rust" && RUSTFLAGS="-D warnings" SNMPSEC_OUT=$OUT LD_LIBRARY_PATH=$OUT cargo test --offline --target-dir "$OUT/cargo") > "$work/rust.out" 2>&1
+    (cd "$here/rust" && RUSTFLAGS="-D warnings" SNMPSEC_OUT=$OUT LD_LIBRARY_PATH=$OUT cargo test --offline \
+        --target-dir "$OUT/cargo") > "$work/rust.out" 2>&1
     check "Rust" 0 $?
     grep -E '^(test .*FAILED|error|thread)' "$work/rust.out"
-    echo "Rust: $(sed -n 's/^test result: ok. \([0-9]*\) passed.*/\1/p' "$work/rust.out" | paste -sd+ | sed 's/$/ tests/')"
+    echo "Rust: $(sed -n 's/^test result: ok. \([0-9]*\) passed.*/\1/p' "$work/rust.out" | paste -sd+ \
+        | sed 's/$/ tests/')"
 }
 
 test_python

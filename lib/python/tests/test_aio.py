@@ -3,6 +3,7 @@
 The device is an agent of the library; what is on its way can be lost, repeated and late. Exchanges with other implementations are in lib/tests."""
 import asyncio
 import doctest
+import gc
 import pathlib
 import random
 import secrets
@@ -88,7 +89,11 @@ class Network(asyncio.DatagramProtocol):
         message = self.agent.message()
         self.sent.append(message)
         for _ in range(self.times() if message else 0):
-            asyncio.get_running_loop().call_later(self.chance.random() * self.late, self.transport.sendto, message, address)
+            asyncio.get_running_loop().call_later(self.chance.random() * self.late, self.send, message, address)
+
+    def send(self, message, address):
+        if not self.transport.is_closing():
+            self.transport.sendto(message, address)
 
     def respond(self, now):
         info, asked = self.agent.info(), snmpsec.bindings(self.agent.part(Part.BINDINGS))
@@ -112,7 +117,21 @@ def config(password=b"maplesyrup", privacy=b"syrupmaple"):
     return targets.configuration("ann", "sha256", password, privacy)
 
 
-class Asking(unittest.IsolatedAsyncioTestCase):
+class Quiet(unittest.IsolatedAsyncioTestCase):
+    """Tests in which asyncio logs nothing, as it does of what nobody catches, and in debug mode of what is slow."""
+
+    async def asyncSetUp(self):
+        asyncio.get_running_loop().set_debug(False)
+        logged = self.assertNoLogs("asyncio")
+        logged.__enter__()
+        self.addCleanup(logged.__exit__, None, None, None)
+
+    async def asyncTearDown(self):
+        gc.collect()
+        await asyncio.sleep(0)
+
+
+class Asking(Quiet):
     def target(self, device, **more):
         return Target("127.0.0.1", device.port, **{"user": "ann"} | more)
 
@@ -215,7 +234,7 @@ class Asking(unittest.IsolatedAsyncioTestCase):
                 await it.__aexit__()
 
 
-class Notified(unittest.IsolatedAsyncioTestCase):
+class Notified(Quiet):
     async def test_traps_and_informs(self):
         with tempfile.TemporaryDirectory() as folder:
             boots, other = pathlib.Path(folder, "listener.boots"), pathlib.Path(folder, "sender.boots")

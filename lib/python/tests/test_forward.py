@@ -67,7 +67,7 @@ class Forwarding(unittest.TestCase):
             self.assertEqual(self.forwarder.take_receiver(MOMENT, 0, answer), ReceiverTaken(ForwardEvent.NO_ANSWER, None, 0), "another receiver's")
             event = ForwardEvent.ACKNOWLEDGED if message is InformMessage.ITSELF else ForwardEvent.HEARD
             self.assertEqual(self.forwarder.take_receiver(MOMENT, 1, answer), ReceiverTaken(event, inform, 0))
-            self.assertEqual(self.forwarder.take_receiver(MOMENT, 1, answer).event, ForwardEvent.NO_ANSWER, "a second time it is none")
+            self.assertEqual(self.forwarder.take_receiver(MOMENT, 1, answer).event, ForwardEvent.NO_ANSWER, "a second time it isn't one")
         self.assertEqual((self.forwarder.informs(), self.forwarder.due()), (0, None))
 
     def test_an_inform_that_nobody_answers_is_given_up(self):
@@ -101,7 +101,7 @@ class Forwarding(unittest.TestCase):
             taken = self.forwarder.take_receiver(MOMENT, 1, self.answer(self.forwarder.next(MOMENT, 11, 11).datagram))
             self.assertEqual(taken, ReceiverTaken(ForwardEvent.HEARD, inform, 0), "anybody can have sent a Report without authentication")
             events = [self.forwarder.next(MOMENT + 5000 * number, 20 + number, 20 + number) for number in range(1, 4)]
-            self.assertEqual((events[-1].event, events[-1].counter), (ForwardEvent.INFORM_GIVEN_UP, 3), "it is told as a hint")
+            self.assertEqual((events[-1].event, events[-1].counter), (ForwardEvent.INFORM_GIVEN_UP, 3), "it is reported as a hint")
 
     def test_what_is_no_notification_is_told(self):
         for device, datagram, event in ((0, b"no message", ForwardEvent.UNREADABLE), (1, TRAP, ForwardEvent.OTHER_COMMUNITY),

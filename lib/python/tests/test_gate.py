@@ -92,7 +92,7 @@ class Gateway(unittest.TestCase):
             for more in (1, 2):
                 sent = self.gate.next(MOMENT, 10 * number + more, 1)
                 self.assertEqual((sent.event, sent.client, sent.device), (GateEvent.TO_CLIENT, b"client", None))
-                self.assertEqual((sent.status, sent.index), (0, 0))
+                self.assertEqual((sent.error_status, sent.error_index), (0, 0))
                 self.assertIsNone(self.manager.take(NOW, sent.datagram))
                 self.assertEqual(self.manager.part(Part.BINDINGS), HELLO)
             self.assertIsNone(self.gate.next(MOMENT, 10 * number + 3, 1))
@@ -105,7 +105,7 @@ class Gateway(unittest.TestCase):
         self.assertEqual(self.gate.take_device(MOMENT, 0, answered(self.gate.next(MOMENT, 1, 1).datagram, other)), GateEvent.ANSWERS)
         self.assertEqual(self.gate.answer()[1:], (Misfit.OTHER_NAME, 1, 0))
         sent = self.gate.next(MOMENT, 2, 2)
-        self.assertEqual((sent.status, sent.index), (5, 0))
+        self.assertEqual((sent.error_status, sent.error_index), (5, 0))
 
     def test_a_message_has_its_pdu(self):
         self.learn()
@@ -140,7 +140,7 @@ class Gateway(unittest.TestCase):
         self.learn()
         self.gate.take_client(MOMENT, b"client", self.ask(2, Level.AUTH_PRIV, context=b"other"))
         sent = self.gate.next(MOMENT, 1, 1)
-        self.assertEqual((sent.status, sent.index), (None, None))
+        self.assertEqual((sent.error_status, sent.error_index), (None, None))
         self.manager.take(NOW, sent.datagram)
         self.assertEqual(self.manager.report().counter, snmpsec.Unhandled.UNKNOWN_CONTEXTS)
         self.assertEqual(self.gate.counts().unknown_contexts, 1)

@@ -1,6 +1,7 @@
 //! A GetRequest over UDP: get CONFIG HOST:PORT USER LEVEL OID..
 //!
-//! It discovers the agent, asks it for the variables and prints them, a line each: name, tag and content, as octets. Level is 1, 2 or 3.
+//! It discovers the agent, asks it for the variables and prints them, a line each: name, tag and content, as octets.
+//! Level is 1, 2 or 3.
 
 use snmpsec::{binding, bindings, Error, Level, Manager, Part, Pdu, Reply, Request, NO_CLOCKS};
 use std::collections::hash_map::RandomState;
@@ -14,7 +15,8 @@ const NOT_IN_WINDOWS: Option<u32> = Some(2);
 const TRIES: u32 = 3;
 const TIMEOUT: Duration = Duration::from_secs(1);
 
-/// A number that nobody foresees. `RandomState` is seeded by the system; a program of your own takes the system's random octets.
+/// A number that nobody foresees. `RandomState` is seeded by the system; a program of your own takes the system's
+/// random octets.
 fn random() -> u64 {
     RandomState::new().build_hasher().finish()
 }

@@ -1,8 +1,8 @@
 //! Many requests at once over one socket, without threads: poll_many CONFIG USER LEVEL OID HOST:PORT..
 //!
-//! It asks each device for the variable, at the same time, and prints a line for each: its address, and the variable's tag and
-//! content, as octets, or why there is none. Devices are discovered first. The loop waits for a datagram or for the next timeout,
-//! so it stands as it is in a program with an event loop of its own. Level is 1, 2 or 3.
+//! It asks each device for the variable, at the same time, and prints a line for each: its address, and the variable's
+//! tag and content, as octets, or why there is none. Devices are discovered first. The loop waits for a datagram or for
+//! the next timeout, so it stands as it is in a program with an event loop of its own. Level is 1, 2 or 3.
 
 use snmpsec::{
     binding, bindings, Answer, Device, Error, Known, Level, Manager, Part, Pdu, Request, Step,
@@ -18,7 +18,8 @@ use std::time::{Duration, Instant, SystemTime, UNIX_EPOCH};
 const TRIES: u32 = 4;
 const TIMEOUT: Duration = Duration::from_secs(1);
 
-/// A number that nobody foresees. `RandomState` is seeded by the system; a program of your own takes the system's random octets.
+/// A number that nobody foresees. `RandomState` is seeded by the system; a program of your own takes the system's
+/// random octets.
 fn random() -> u64 {
     RandomState::new().build_hasher().finish()
 }

@@ -51,7 +51,8 @@ pub struct Counters {
     pub decryption_errors: u32,
 }
 
-/// How often a message wasn't answered, or was refused without a report (RFC 3412, section 5; RFC 3413, section 4.1.2; RFC 3418).
+/// How often a message wasn't answered, or was refused without a report (RFC 3412, section 5; RFC 3413, section 4.1.2;
+/// RFC 3418).
 #[derive(Clone, Copy, Debug, PartialEq, Eq)]
 pub struct Counts {
     pub unknown_pdu_handlers: u32,
@@ -109,8 +110,8 @@ pub(crate) fn told(call: impl FnOnce(*mut u32) -> i32) -> Result<Access, Error> 
 impl Agent {
     /// An agent of a configuration, with its engine ID and boots, that started at this moment in seconds.
     ///
-    /// The errors are BadArgument, where the engine ID hasn't 5 to 32 octets or is all 00 or all ff, or boots are above 2147483647;
-    /// BadConfiguration; and OutOfMemory.
+    /// The errors are BadArgument, where the engine ID hasn't 5 to 32 octets or is all 00 or all ff, or boots are above
+    /// 2147483647; BadConfiguration; and OutOfMemory.
     pub fn new(config: &[u8], engine: &[u8], boots: u32, started: u64) -> Result<Agent, Error> {
         let held = Held::of(&CALLS, |at| unsafe {
             snmpsec_agent_new(
@@ -126,8 +127,9 @@ impl Agent {
         Ok(Agent { held })
     }
 
-    /// Users and tables become those of a changed configuration. The engine ID, the boots, the moment of the start, all counters, what is kept
-    /// and the message stay. The errors are BadConfiguration and OutOfMemory, and nothing changes then.
+    /// Users and tables become those of a changed configuration. The engine ID, the boots, the moment of the start, all
+    /// counters, what is kept and the message stay. The errors are BadConfiguration and OutOfMemory, and nothing
+    /// changes then.
     pub fn reconfigure(&mut self, config: &[u8]) -> Result<(), Error> {
         done(unsafe { snmpsec_agent_reconfigure(self.held.at(), config.as_ptr(), config.len()) })
     }
@@ -229,8 +231,8 @@ impl Agent {
         })
     }
 
-    /// The same where it has at most `limit` octets; else it is refused as TooLarge. A Response without bindings fits into 484 if
-    /// contextEngineID and contextName have at most 32 octets each.
+    /// The same where it has at most `limit` octets; else it is refused as TooLarge. A Response without bindings fits
+    /// into 484 if contextEngineID and contextName have at most 32 octets each.
     pub fn respond_within(
         &mut self,
         now: u64,
@@ -254,8 +256,8 @@ impl Agent {
         })
     }
 
-    /// The Response with as many of the bindings, from the first on, as have room in `limit` octets, and how many they are. It is refused as
-    /// TooLarge where there is no room even for a Response without bindings.
+    /// The Response with as many of the bindings, from the first on, as have room in `limit` octets, and how many they
+    /// are. It is refused as TooLarge where there is no room even for a Response without bindings.
     pub fn respond_front(
         &mut self,
         now: u64,

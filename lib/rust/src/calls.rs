@@ -1,7 +1,8 @@
-//! The header's signatures again: `lib/tests/signatures.py` has the C compiler compare them with the header. An enumeration is a `u32`.
+//! The header's signatures again: `lib/tests/signatures.py` has the C compiler compare them with the header. An
+//! enumeration is a `u32`.
 //!
-//! Why the calls of this crate are sound: a handle is a `Held`'s, which one thread uses at a time and which is freed once; and each pointer
-//! is that of a slice beside its length, or of a number or a struct.
+//! Why the calls of this crate are sound: a handle is a `Held`'s, which one thread uses at a time and which is freed
+//! once; and each pointer is that of a slice beside its length, or of a number or a struct.
 
 use std::ffi::{c_char, c_void};
 use std::marker::PhantomData;
@@ -11,8 +12,8 @@ pub struct Opaque {
     _private: [u8; 0],
 }
 
-/// What lies behind a handle of another kind than that of a call's name: a message that is kept, in a call on an agent, or an agent, in a call
-/// on a message that is kept.
+/// What lies behind a handle of another kind than that of a call's name: a message that is kept, in a call on an agent,
+/// or an agent, in a call on a message that is kept.
 pub type Other = Opaque;
 
 /// Octets of a slice.

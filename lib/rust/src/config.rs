@@ -59,8 +59,8 @@ const REASONS: [ConfigReason; 10] = [
     ConfigReason::DuplicateRow,
 ];
 
-/// Where a configuration is refused, and why. It is printed as `snmpsec check-config` tells it: the refusal, and what is wrong and what is
-/// wanted.
+/// Where a configuration is refused, and why. It is printed as `snmpsec check-config` tells it: the refusal, and what
+/// is wrong and what is wanted.
 #[derive(Clone, Debug, PartialEq, Eq)]
 pub struct ConfigFault {
     /// The table, where a row of one is at fault.

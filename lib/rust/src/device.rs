@@ -64,8 +64,9 @@ impl Device {
         self.step
     }
 
-    /// What is to be done once a message answered what was sent last. The request is sent again once, after an authentic Report
-    /// that it was outside of the time window, and never at another level. A Report that isn't authentic ends nothing.
+    /// What is to be done once a message answered what was sent last. The request is sent again once, after an
+    /// authentic Report that it was outside of the time window, and never at another level. A Report that isn't
+    /// authentic ends nothing.
     pub fn hear(&mut self, answer: Answer, holds_clock: bool) -> Result<Step, Error> {
         let answered = match answer {
             Answer::Response => calls::Answered::default(),
@@ -85,8 +86,8 @@ impl Device {
         Ok(self.step)
     }
 
-    /// The counter of the last Report that says why the request is refused or, where the second is false, is likely to have no
-    /// answer: such a Report can be anybody's.
+    /// The counter of the last Report that says why the request is refused or, where the second is false, is likely to
+    /// have no answer: such a Report can be anybody's.
     pub fn report(&self) -> Option<(u32, bool)> {
         let counter = u32::try_from(self.device.counter).ok()?;
         Some((counter, self.device.is_authentic))

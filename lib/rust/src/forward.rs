@@ -1,4 +1,5 @@
-//! Traps of devices that speak SNMPv2c, sent on to receivers that speak SNMPv3, as Traps or as Informs, without sockets.
+//! Traps of devices that speak SNMPv2c, sent on to receivers that speak SNMPv3, as Traps or as Informs, without
+//! sockets.
 
 use crate::calls::{
     self, snmpsec_forward_due, snmpsec_forward_free, snmpsec_forward_message, snmpsec_forward_new,
@@ -31,7 +32,8 @@ enum Event {
     ForwardInformUnsent = 60,
 }
 
-/// What a receiver is sent for an Inform (RFC 3414, section 4): its engine is discovered, is asked for its time, and gets the Inform.
+/// What a receiver is sent for an Inform (RFC 3414, section 4): its engine is discovered, is asked for its time, and
+/// gets the Inform.
 #[derive(Clone, Copy, Debug, PartialEq, Eq)]
 pub enum InformMessage {
     InformDiscovery = 1,
@@ -107,8 +109,8 @@ pub enum Forwarded {
         receiver: usize,
         why: Option<Refusal>,
     },
-    /// The Inform was sent as often as it may be. The counter, 1 to 9, is that of the last Report that came without authentication, which anybody can
-    /// have sent.
+    /// The Inform was sent as often as it may be. The counter, 1 to 9, is that of the last Report that came without
+    /// authentication, which anybody can have sent.
     InformGivenUp {
         inform: u64,
         receiver: usize,
@@ -116,8 +118,8 @@ pub enum Forwarded {
     },
 }
 
-/// A forwarder of notifications, which one thread uses at a time. Moments are milliseconds from one beginning. What has come is taken before `next`
-/// is called.
+/// A forwarder of notifications, which one thread uses at a time. Moments are milliseconds from one beginning. What has
+/// come is taken before `next` is called.
 pub struct Forwarder {
     at: NonNull<Opaque>,
 }
@@ -146,9 +148,11 @@ fn message_of(number: u64) -> Result<InformMessage, Error> {
 }
 
 impl Forwarder {
-    /// A forwarder of a gateway's configuration, with the gateway's boots, whose agent started at this moment in seconds.
+    /// A forwarder of a gateway's configuration, with the gateway's boots, whose agent started at this moment in
+    /// seconds.
     ///
-    /// The errors are BadArgument, where boots are above 2147483647; BadConfiguration, of which [`crate::gate_fault`] says more; and OutOfMemory.
+    /// The errors are BadArgument, where boots are above 2147483647; BadConfiguration, of which [`crate::gate_fault`]
+    /// says more; and OutOfMemory.
     pub fn new(config: &[u8], boots: u32, started: u64) -> Result<Forwarder, Error> {
         let (mut at, len) = (null_mut(), config.len());
         done(unsafe { snmpsec_forward_new(config.as_ptr(), len, boots, started, &mut at) })?;
@@ -166,7 +170,8 @@ impl Forwarder {
         Ok(info)
     }
 
-    /// Takes a datagram of the device at this position, from 0. That it came from this device rests on the caller. The error is OutOfMemory.
+    /// Takes a datagram of the device at this position, from 0. That it came from this device rests on the caller. The
+    /// error is OutOfMemory.
     pub fn take_trap(&mut self, device: usize, datagram: &[u8]) -> Result<TrapTaken, Error> {
         let (mut event, len) = (0, datagram.len());
         done(unsafe {
@@ -219,7 +224,8 @@ impl Forwarder {
         })
     }
 
-    /// Does the first thing that is due, or None. It is called until then, each time with another salt and ask_id, also after a restart.
+    /// Does the first thing that is due, or None. It is called until then, each time with another salt and ask_id, also
+    /// after a restart.
     pub fn next(&mut self, now: u64, salt: u64, ask_id: u32) -> Result<Option<Forwarded>, Error> {
         let (mut event, mut why) = (0, 0);
         done(unsafe { snmpsec_forward_next(self.at(), now, salt, ask_id, &mut event, &mut why) })?;

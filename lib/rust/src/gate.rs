@@ -65,8 +65,8 @@ enum MisfitNumber {
     MisfitAfterEnd = 6,
 }
 
-/// Why the bindings of a device's answer don't answer what it was asked: the first of these from the left. The number is that of the
-/// answer's binding, from 1.
+/// Why the bindings of a device's answer don't answer what it was asked: the first of these from the left. The number
+/// is that of the answer's binding, from 1.
 #[derive(Clone, Copy, Debug, PartialEq, Eq)]
 pub enum Misfit {
     /// It has fewer bindings than were asked.
@@ -99,8 +99,9 @@ fn misfit_of(info: &calls::GateInfo) -> Option<Misfit> {
 /// What becomes of a device's datagram.
 #[derive(Clone, Copy, Debug, PartialEq, Eq)]
 pub enum DeviceTaken {
-    /// It is the answer to what the device was asked for this request; why it doesn't fit, if it has no error and doesn't; and how many
-    /// of its bindings are hidden from the request's user: their names aren't in the read view. Of an answer to a Set that is 0.
+    /// It is the answer to what the device was asked for this request; why it doesn't fit, if it has no error and
+    /// doesn't; and how many of its bindings are hidden from the request's user: their names aren't in the read view.
+    /// Of an answer to a Set that is 0.
     Answers {
         request: u64,
         misfit: Option<Misfit>,
@@ -162,8 +163,8 @@ pub struct GateReceiver {
     pub kind: String,
 }
 
-/// A gateway, which one thread uses at a time. Moments are milliseconds from one beginning. What has come is taken before `next` is called,
-/// devices' datagrams first.
+/// A gateway, which one thread uses at a time. Moments are milliseconds from one beginning. What has come is taken
+/// before `next` is called, devices' datagrams first.
 pub struct Gate {
     at: NonNull<Opaque>,
 }
@@ -177,8 +178,8 @@ impl Drop for Gate {
     }
 }
 
-/// Why a text is refused as a gateway's configuration, in two lines: the refusal, and what is wrong; None where it isn't. The error is
-/// OutOfMemory.
+/// Why a text is refused as a gateway's configuration, in two lines: the refusal, and what is wrong; None where it
+/// isn't. The error is OutOfMemory.
 pub fn gate_fault(config: &[u8]) -> Result<Option<String>, Error> {
     let mut text = vec![0; 4096];
     let mut written = 0;
@@ -214,7 +215,8 @@ pub fn datagram_user(datagram: &[u8]) -> Option<Vec<u8>> {
 impl Gate {
     /// A gateway of a configuration, with its boots, whose agent started at this moment in seconds.
     ///
-    /// The errors are BadArgument, where boots are above 2147483647; BadConfiguration, of which [`gate_fault`] says more; and OutOfMemory.
+    /// The errors are BadArgument, where boots are above 2147483647; BadConfiguration, of which [`gate_fault`] says
+    /// more; and OutOfMemory.
     pub fn new(config: &[u8], boots: u32, started: u64) -> Result<Gate, Error> {
         let mut at = null_mut();
         done(unsafe { snmpsec_gate_new(config.as_ptr(), config.len(), boots, started, &mut at) })?;
@@ -222,8 +224,9 @@ impl Gate {
         Ok(Gate { at })
     }
 
-    /// What a configuration says, for [`boots_path`](Gate::boots_path), [`listen`](Gate::listen) and [`devices`](Gate::devices). No password is
-    /// hashed, so it takes little time. This gateway has no users and no devices, and answers nobody.
+    /// What a configuration says, for [`boots_path`](Gate::boots_path), [`listen`](Gate::listen) and
+    /// [`devices`](Gate::devices). No password is hashed, so it takes little time. This gateway has no users and no
+    /// devices, and answers nobody.
     ///
     /// The errors are BadConfiguration and OutOfMemory.
     pub fn read(config: &[u8]) -> Result<Gate, Error> {
@@ -243,8 +246,8 @@ impl Gate {
         Ok(info)
     }
 
-    /// Takes a client's datagram; its address is any octets that tell it from others. What is refused is an error, and its report is the
-    /// message, if there is one.
+    /// Takes a client's datagram; its address is any octets that tell it from others. What is refused is an error, and
+    /// its report is the message, if there is one.
     pub fn take_client(
         &mut self,
         now: u64,
@@ -317,7 +320,8 @@ impl Gate {
         })
     }
 
-    /// Does the first thing that is due, or None. It is called until then, each time with another salt and ask_id, also after a restart.
+    /// Does the first thing that is due, or None. It is called until then, each time with another salt and ask_id, also
+    /// after a restart.
     pub fn next(&mut self, now: u64, salt: u64, ask_id: u32) -> Result<Option<Sent>, Error> {
         let (mut event, mut why) = (0, 0);
         done(unsafe { snmpsec_gate_next(self.at(), now, salt, ask_id, &mut event, &mut why) })?;

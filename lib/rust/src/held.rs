@@ -15,17 +15,19 @@ pub struct Calls {
     pub message: unsafe extern "C" fn(*mut Opaque, *mut u8, usize, *mut usize) -> i32,
 }
 
-/// A handle, which is freed with it. It goes from thread to thread, and one uses it at a time: so it is `Send` and not `Sync`.
+/// A handle, which is freed with it. It goes from thread to thread, and one uses it at a time: so it is `Send` and not
+/// `Sync`.
 pub struct Held {
     at: NonNull<Opaque>,
     calls: &'static Calls,
 }
 
-// SAFETY: the library has no data but the handle's and the heap's (malloc, which threads share): it keeps nothing of the thread that made
-// the handle. `lib/test.sh` looks for races between handles.
+// SAFETY: the library has no data but the handle's and the heap's (malloc, which threads share): it keeps nothing of
+// the thread that made the handle. `lib/test.sh` looks for races between handles.
 unsafe impl Send for Held {}
 
-/// The octets that a call writes. There is room for a datagram, and where more is wanted, as for a saved text, the call is made again.
+/// The octets that a call writes. There is room for a datagram, and where more is wanted, as for a saved text, the call
+/// is made again.
 pub fn copied(call: impl Fn(*mut u8, usize, *mut usize) -> i32) -> Result<Vec<u8>, Error> {
     let mut out = vec![0; LARGEST];
     let mut written = 0;

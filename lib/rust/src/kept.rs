@@ -12,8 +12,9 @@ use crate::words::{Info, Part};
 use std::mem::forget;
 use std::ptr::{null_mut, NonNull};
 
-/// A message that an agent accepted, kept outside of it: any number may wait for their Responses, which are written in any order. One thread
-/// uses it at a time. Its text lies in memory as it was decrypted until it is dropped, and is wiped then.
+/// A message that an agent accepted, kept outside of it: any number may wait for their Responses, which are written in
+/// any order. One thread uses it at a time. Its text lies in memory as it was decrypted until it is dropped, and is
+/// wiped then.
 pub struct Kept {
     at: NonNull<Opaque>,
 }
@@ -26,7 +27,8 @@ pub struct Response<'a> {
     pub bindings: &'a [u8],
 }
 
-// SAFETY: as of `Held`: the library has no data but the object's and the heap's, and keeps nothing of the thread that made it.
+// SAFETY: as of `Held`: the library has no data but the object's and the heap's, and keeps nothing of the thread that
+// made it.
 unsafe impl Send for Kept {}
 
 impl Kept {
@@ -49,8 +51,8 @@ impl Kept {
         Ok(size)
     }
 
-    /// Writes the Response to it, as the agent's message. What the agent keeps stays. The agent may be another one than that which accepted it,
-    /// as one that was made of a new configuration.
+    /// Writes the Response to it, as the agent's message. What the agent keeps stays. The agent may be another one than
+    /// that which accepted it, as one that was made of a new configuration.
     pub fn respond(
         &mut self,
         agent: &mut Agent,
@@ -96,7 +98,8 @@ impl Kept {
         })
     }
 
-    /// The Response with as many of the bindings, from the first on, as have room in `limit` octets, and how many they are.
+    /// The Response with as many of the bindings, from the first on, as have room in `limit` octets, and how many they
+    /// are.
     pub fn respond_front(
         &mut self,
         agent: &mut Agent,
@@ -131,8 +134,8 @@ impl Drop for Kept {
 }
 
 impl Agent {
-    /// Takes what is kept out of the agent, which keeps no message then, until the next `take`. The message that is to be sent stays. The errors
-    /// are NothingTaken and OutOfMemory, and the agent keeps what it kept then.
+    /// Takes what is kept out of the agent, which keeps no message then, until the next `take`. The message that is to
+    /// be sent stays. The errors are NothingTaken and OutOfMemory, and the agent keeps what it kept then.
     pub fn keep(&mut self) -> Result<Kept, Error> {
         let mut at = null_mut();
         done(unsafe { snmpsec_agent_keep(self.held.at(), &mut at) })?;
@@ -140,8 +143,8 @@ impl Agent {
         Ok(Kept { at })
     }
 
-    /// Puts it back: the agent keeps it, instead of what it kept, as if it had been accepted last. So `access`, `next`, `unhandled` and `refuse`
-    /// are asked of a message that waited.
+    /// Puts it back: the agent keeps it, instead of what it kept, as if it had been accepted last. So `access`, `next`,
+    /// `unhandled` and `refuse` are asked of a message that waited.
     pub fn restore(&mut self, kept: Kept) -> Result<(), Error> {
         done(unsafe { snmpsec_agent_restore(self.held.at(), kept.at.as_ptr()) })?;
         forget(kept); // the call freed it

@@ -1,4 +1,5 @@
-//! Keys, codes and sealed texts, for programs that spell messages themselves. Nothing is kept, and whoever is given a key wipes it.
+//! Keys, codes and sealed texts, for programs that spell messages themselves. Nothing is kept, and whoever is given a
+//! key wipes it.
 
 use crate::calls::{
     snmpsec_localise, snmpsec_mac, snmpsec_open, snmpsec_password_key, snmpsec_seal, snmpsec_wipe,
@@ -32,7 +33,8 @@ pub fn wipe(octets: &mut [u8]) {
     unsafe { snmpsec_wipe(octets.as_mut_ptr().cast(), octets.len()) }
 }
 
-/// The key of a password, the same for all engines (RFC 3414, section A.2; RFC 7860, section 5). It hashes 1,048,576 octets.
+/// The key of a password, the same for all engines (RFC 3414, section A.2; RFC 7860, section 5). It hashes 1,048,576
+/// octets.
 ///
 /// The error is BadArgument: the password has fewer than 8 octets.
 pub fn password_key(protocol: Protocol, password: &[u8]) -> Result<Vec<u8>, Error> {
@@ -66,9 +68,9 @@ pub fn localise(protocol: Protocol, key: &[u8], engine: &[u8]) -> Result<Vec<u8>
     })
 }
 
-/// The message authentication code, under a localised key, of `front`, this many zero octets and `back`, joined (RFC 3414, sections
-/// 6.3.1 and 7.3.1; RFC 7860, section 4.2.1). The zeros stand in the code's own place, so in a message they are as many as the code
-/// has octets.
+/// The message authentication code, under a localised key, of `front`, this many zero octets and `back`, joined (RFC
+/// 3414, sections 6.3.1 and 7.3.1; RFC 7860, section 4.2.1). The zeros stand in the code's own place, so in a message
+/// they are as many as the code has octets.
 ///
 /// The error is BadArgument: the key has more than 32 octets, or there are more than 24 zeros.
 pub fn mac(
@@ -97,9 +99,9 @@ pub fn mac(
 
 /// Seals a text of any length in its place, by AES-128 in cipher feedback mode (RFC 3826, section 3.1.3).
 ///
-/// The key is the first 16 octets of a localised key. Boots and time, in seconds, are the authoritative engine's that the message
-/// says; any are taken. The salt is the content of its msgPrivacyParameters, 8 octets (section 3.1.2.1), and never comes twice for a
-/// key, which is the caller's duty.
+/// The key is the first 16 octets of a localised key. Boots and time, in seconds, are the authoritative engine's that
+/// the message says; any are taken. The salt is the content of its msgPrivacyParameters, 8 octets (section 3.1.2.1),
+/// and never comes twice for a key, which is the caller's duty.
 ///
 /// The error is BadArgument: the key hasn't 16 octets or the salt hasn't 8, and the text stays as it was.
 pub fn seal(key: &[u8], boots: u32, time: u32, salt: &[u8], text: &mut [u8]) -> Result<(), Error> {
@@ -117,8 +119,8 @@ pub fn seal(key: &[u8], boots: u32, time: u32, salt: &[u8], text: &mut [u8]) -> 
     })
 }
 
-/// Opens a text in its place that was sealed with these (RFC 3826, section 3.1.4). It can't tell a wrong key: whatever the octets
-/// are, they open to some text.
+/// Opens a text in its place that was sealed with these (RFC 3826, section 3.1.4). It can't tell a wrong key: whatever
+/// the octets are, they open to some text.
 ///
 /// The error is BadArgument, as with [`seal`].
 pub fn open(key: &[u8], boots: u32, time: u32, salt: &[u8], text: &mut [u8]) -> Result<(), Error> {

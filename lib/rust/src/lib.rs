@@ -1,8 +1,8 @@
-//! SNMPv3 user security and view access: an agent, a manager and a gateway, and keys, codes and sealed texts. The calls are safe; the library behind
-//! them is proved, and this crate isn't.
+//! SNMPv3 user security and view access: an agent, a manager and a gateway, and keys, codes and sealed texts. The calls
+//! are safe; the library behind them is proved, and this crate isn't.
 //!
-//! A method does what the call of its name in `include/snmpsec.h` does. What a call writes is the message, which `message` copies. Here a
-//! manager discovers an agent; between the two there would be a socket.
+//! A method does what the call of its name in `include/snmpsec.h` does. What a call writes is the message, which
+//! `message` copies. Here a manager discovers an agent; between the two there would be a socket.
 //!
 //! ```
 //! use snmpsec::{Agent, Error, Manager, Part, Refusal, Reply, NO_CLOCKS};
@@ -20,8 +20,8 @@
 //! # }
 //! ```
 //!
-//! [`password_key`], [`localise`], [`mac`], [`seal`] and [`open`] do what the calls of their names do, and keep nothing: they are for
-//! programs that spell messages themselves. A message that came is checked by `take`.
+//! [`password_key`], [`localise`], [`mac`], [`seal`] and [`open`] do what the calls of their names do, and keep
+//! nothing: they are for programs that spell messages themselves. A message that came is checked by `take`.
 //!
 //! ```
 //! use snmpsec::{localise, mac, open, password_key, seal, wipe, Protocol};
@@ -41,7 +41,8 @@
 //! # }
 //! ```
 //!
-//! [`scoped_pdu`] and [`Manager::seal`] make messages that no well-behaved manager sends, for programs that test agents:
+//! [`scoped_pdu`] and [`Manager::seal`] make messages that no well-behaved manager sends, for programs that test
+//! agents:
 //!
 //! ```
 //! use snmpsec::{scoped_pdu, Clock, Level, Manager, Pdu, ScopedPdu, Sealing, NO_CLOCKS};
@@ -84,7 +85,8 @@
 //! # }
 //! ```
 //!
-//! A [`Gate`] stands between managers and devices that speak SNMPv2c. It takes what both send, and `next` says what goes out:
+//! A [`Gate`] stands between managers and devices that speak SNMPv2c. It takes what both send, and `next` says what
+//! goes out:
 //!
 //! ```
 //! use snmpsec::{Gate, Sent};
@@ -101,7 +103,8 @@
 //! "#;
 //! let mut gate = Gate::new(config, 1, 0)?;
 //! assert_eq!(gate.devices()?[0].address, "10.1.0.7:161");
-//! assert!(gate.take_client(1000, b"a client", b"no message").is_err()); // and the report, if there is one, is the message
+//! // (the message is then the report, if there is one)
+//! assert!(gate.take_client(1000, b"a client", b"no message").is_err());
 //! while let Some(sent) = gate.next(1000, 1, 1)? {
 //!     if let Sent::ToDevice { device, datagram, .. } = sent {
 //!         println!("{} octets to device {device}", datagram.len());

@@ -53,9 +53,11 @@ pub enum Answer {
     Response,
     /// A Report.
     Report {
-        /// 1 to 6 by the order of [`Counters`](crate::Counters), a number of [`Unhandled`](crate::Unhandled), or none of them.
+        /// 1 to 6 by the order of [`Counters`](crate::Counters), a number of [`Unhandled`](crate::Unhandled), or none
+        /// of them.
         counter: Option<u32>,
-        /// It came with authentication, from the engine that was asked and for the user that asks; any other can be anybody's.
+        /// It came with authentication, from the engine that was asked and for the user that asks; any other can be
+        /// anybody's.
         is_authentic: bool,
     },
 }
@@ -63,7 +65,8 @@ pub enum Answer {
 /// What a Report tells.
 #[derive(Clone, Copy, Debug, PartialEq, Eq)]
 pub struct Report {
-    /// 1 to 6 by the order of [`Counters`](crate::Counters), a number of [`Unhandled`](crate::Unhandled), or none of them.
+    /// 1 to 6 by the order of [`Counters`](crate::Counters), a number of [`Unhandled`](crate::Unhandled), or none of
+    /// them.
     pub counter: Option<u32>,
     /// The counter's value.
     pub value: Option<u32>,
@@ -115,7 +118,8 @@ impl<'a> Request<'a> {
     }
 }
 
-/// How a scopedPDU is sealed, and for whom: for programs that test agents, which send what no well-behaved manager sends.
+/// How a scopedPDU is sealed, and for whom: for programs that test agents, which send what no well-behaved manager
+/// sends.
 #[derive(Clone, Copy, Debug)]
 pub struct Sealing<'a> {
     pub message_id: u32,
@@ -131,8 +135,8 @@ pub struct Sealing<'a> {
 }
 
 impl Manager {
-    /// A manager with the users of a configuration, that begins with the clocks of a saved text, where the marks of version 1
-    /// were seen at this moment in seconds.
+    /// A manager with the users of a configuration, that begins with the clocks of a saved text, where the marks of
+    /// version 1 were seen at this moment in seconds.
     pub fn new(config: &[u8], clocks: &[u8], now: u64) -> Result<Manager, Error> {
         let held = Held::of(&CALLS, |at| unsafe {
             snmpsec_manager_new(
@@ -210,8 +214,8 @@ impl Manager {
         done(unsafe { snmpsec_manager_request(self.held.at(), now, &request) })
     }
 
-    /// Seals a scopedPDU, which [`scoped_pdu`](crate::scoped_pdu) writes, as the message. No answer to it is waited for, and the
-    /// clocks stay.
+    /// Seals a scopedPDU, which [`scoped_pdu`](crate::scoped_pdu) writes, as the message. No answer to it is waited
+    /// for, and the clocks stay.
     pub fn seal(&mut self, of: &Sealing<'_>, scoped: &[u8], salt: u64) -> Result<(), Error> {
         let sealing = calls::Sealing {
             message_id: of.message_id,
@@ -228,9 +232,9 @@ impl Manager {
         done(unsafe { snmpsec_manager_seal(self.held.at(), &sealing) })
     }
 
-    /// Writes a request that waits for its answer beside all others that were asked, and returns its token. The first of all
-    /// has the `message_id` of the request, which is to be random; each later one has the next that none has that waits. At
-    /// most 65,536 wait.
+    /// Writes a request that waits for its answer beside all others that were asked, and returns its token. The first
+    /// of all has the `message_id` of the request, which is to be random; each later one has the next that none has
+    /// that waits. At most 65,536 wait.
     pub fn ask(&mut self, now: u64, of: &Request<'_>, salt: u64) -> Result<u64, Error> {
         let request = of.to_call(salt);
         let mut token = 0;
@@ -238,15 +242,16 @@ impl Manager {
         Ok(token)
     }
 
-    /// Writes the request by which an engine is discovered, as [`ask`](Manager::ask) does. It waits until it is given up.
+    /// Writes the request by which an engine is discovered, as [`ask`](Manager::ask) does. It waits until it is given
+    /// up.
     pub fn ask_discovery(&mut self, message_id: u32) -> Result<u64, Error> {
         let mut token = 0;
         done(unsafe { snmpsec_manager_ask_discovery(self.held.at(), message_id, &mut token) })?;
         Ok(token)
     }
 
-    /// The token of the request that is answered by what is kept, and how. None: it answers none that waits. A Response is
-    /// reported once.
+    /// The token of the request that is answered by what is kept, and how. None: it answers none that waits. A Response
+    /// is reported once.
     pub fn answered(&mut self) -> Result<Option<(u64, Answer)>, Error> {
         let mut found = calls::Answered::default();
         done(unsafe { snmpsec_manager_answered(self.held.at(), &mut found) })?;

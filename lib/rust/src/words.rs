@@ -72,8 +72,8 @@ impl Unhandled {
     }
 }
 
-/// What becomes of a variable (RFC 3413, section 3.2): it is answered, an error-status, the value noSuchObject, a walk goes on behind it, or
-/// the message is refused as of an unknown context.
+/// What becomes of a variable (RFC 3413, section 3.2): it is answered, an error-status, the value noSuchObject, a walk
+/// goes on behind it, or the message is refused as of an unknown context.
 #[derive(Clone, Copy, Debug, PartialEq, Eq)]
 pub enum Status {
     NoError = 0,
@@ -135,7 +135,8 @@ pub enum Pdu {
     ReportPdu = 0xA8,
 }
 
-/// The numbers of the message that is kept. Of a GetBulkRequest the fourth and fifth are non-repeaters and max-repetitions.
+/// The numbers of the message that is kept. Of a GetBulkRequest the fourth and fifth are non-repeaters and
+/// max-repetitions.
 #[derive(Clone, Copy, Debug, PartialEq, Eq)]
 pub struct Info {
     pub level: Level,

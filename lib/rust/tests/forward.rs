@@ -7,8 +7,10 @@ use snmpsec::{
 
 const NOW: u64 = 1_000_000;
 const RECEIVER: &[u8] = b"\x80\0\x1f\x88\x04receiver";
-const USER: &str = "[[user]]\nname = 'ann'\nauth = 'sha256'\nauth-password = 'maplesyrup'\npriv-password = 'another passphrase'\n";
-const GATE: &str = "[gate]\nengine = '80001f8804676174652d31'\nboots = '/var/lib/boots'\nlisten = ['192.0.2.1:161']\ntraps = ['0.0.0.0:162']\n\
+const USER: &str = "[[user]]\nname = 'ann'\nauth = 'sha256'\nauth-password = 'maplesyrup'\n\
+    priv-password = 'another passphrase'\n";
+const GATE: &str = "[gate]\nengine = '80001f8804676174652d31'\nboots = '/var/lib/boots'\n\
+    listen = ['192.0.2.1:161']\ntraps = ['0.0.0.0:162']\n\
     [[device]]\ncontext = 'pdu'\naddress = '10.1.0.7:161'\ncommunity = 'public'\n\
     [[receiver]]\naddress = '192.0.2.50:162'\nuser = 'ann'\nlevel = 'authPriv'\n\
     [[receiver]]\naddress = '192.0.2.51:162'\nuser = 'ann'\nlevel = 'authPriv'\nkind = 'inform'\n\

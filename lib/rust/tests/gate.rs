@@ -8,11 +8,14 @@ use snmpsec::{
 const NOW: u64 = 1_000_000;
 const ENGINE: [u8; 11] = [0x80, 0, 0x1f, 0x88, 4, b'g', b'a', b't', b'e', b'-', b'1'];
 const SYS_NAME: [u32; 9] = [1, 3, 6, 1, 2, 1, 1, 5, 0];
-const USER: &str = "[[user]]\nname = 'ann'\nauth = 'sha256'\nauth-password = 'maplesyrup'\npriv-password = 'another passphrase'\n";
-const GATE: &str = "[gate]\nengine = '80001f8804676174652d31'\nboots = '/var/lib/boots'\nlisten = ['192.0.2.1:161', '[2001:db8::1]:161']\n\
+const USER: &str = "[[user]]\nname = 'ann'\nauth = 'sha256'\nauth-password = 'maplesyrup'\n\
+    priv-password = 'another passphrase'\n";
+const GATE: &str = "[gate]\nengine = '80001f8804676174652d31'\nboots = '/var/lib/boots'\n\
+    listen = ['192.0.2.1:161', '[2001:db8::1]:161']\n\
     [[device]]\ncontext = 'pdu'\naddress = '10.1.0.7:161'\ncommunity = 'reads'\n\
     [[group]]\nmodel = 3\nname = 'ann'\ngroup = 'all'\n\
-    [[access]]\ngroup = 'all'\nprefix = ''\nmodel = 3\nlevel = 'noAuthNoPriv'\nmatch = 'prefix'\nread = 'all'\nwrite = 'all'\n\
+    [[access]]\ngroup = 'all'\nprefix = ''\nmodel = 3\nlevel = 'noAuthNoPriv'\nmatch = 'prefix'\nread = 'all'\n\
+    write = 'all'\n\
     [[family]]\nview = 'all'\nsubtree = '1.3.6.1'\ninclude = true\n";
 
 struct Both {

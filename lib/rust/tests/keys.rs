@@ -23,7 +23,8 @@ fn hex(octets: &[u8]) -> String {
     octets.iter().map(|octet| format!("{octet:02x}")).collect()
 }
 
-/// Of the password `maplesyrup` the key, and that key localised (RFC 3414, sections A.3.1 and A.3.2; the third by Python's hashlib).
+/// Of the password `maplesyrup` the key, and that key localised (RFC 3414, sections A.3.1 and A.3.2; the third by
+/// Python's hashlib).
 #[test]
 fn a_password_gives_keys() {
     let keys = [

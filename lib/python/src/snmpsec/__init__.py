@@ -411,7 +411,7 @@ def wiped(path: Path, use: Callable[[bytearray], _Made]) -> _Made:
 
 
 def _or_none(told: Callable[..., _Made], *arguments: Any) -> Optional[_Made]:
-    """What is told, or None where there is nothing."""
+    """What is reported, or None where there is nothing."""
     try:
         return told(*arguments)
     except NothingTaken:

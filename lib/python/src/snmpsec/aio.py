@@ -25,8 +25,9 @@ import time
 from functools import lru_cache
 from typing import Any, AsyncIterator, Dict, List, NamedTuple, Optional, Sequence, Tuple
 
-from . import NO_CLOCKS, Answered, Buffer, Device, Known, Level, Manager, Part, Pdu, Refusal, Step, binding, wiped
-from .files import Path, read_whole, replace
+from . import (NO_CLOCKS, Answered, Buffer, Device, Info, Known, Level, Manager, Part, Pdu, Refusal, Step, binding,
+               wiped)
+from .files import Path, read_clocks, save_clocks
 from .notifications import Listener, Notification, TrapSender, Variables, listed, notified, variables_of
 from .targets import TOO_BIG, ErrorStatus, NoAnswer, NotIncreasing, ReportReceived, SnmpError, Target, configuration
 from .values import END_OF_MIB_VIEW, Name, ObjectId, Value, Variable, encode
@@ -53,26 +54,35 @@ class _Peer:
         self.holds_clock = False
         self.refusal: Optional[Refusal] = None
         self.turn = asyncio.Lock()  # of discovery
+        self.discovery: Optional[Manager] = None  # what asks for its engine, under a msgID that nobody can know
 
 
-class _Waiting:
-    """A request on its way: whom it asks, what it waits for, and what is to be done once it is heard of, or None if nothing came in time."""
-
-    __slots__ = ("peer", "state", "future")
-
-    def __init__(self, peer: _Peer, state: Device):
-        self.peer, self.state = peer, state
-        self.future: Optional[asyncio.Future[Optional[Step]]] = None
-
-    def heard(self, step: Optional[Step]) -> None:
-        if self.future is not None and not self.future.done():
-            self.future.set_result(step)
+def _place(address: Tuple[Any, ...]) -> Tuple[Any, ...]:
+    """What tells an address from others: the host, the port and the interface, which a link-local address of IPv6 has
+    (RFC 4007, section 6)."""
+    return (*address[:2], *address[3:])
 
 
 class _Response(NamedTuple):
     error_status: int
     error_index: int
     octets: bytes
+
+
+class _Waiting:
+    """A request on its way: whom it asks, what it waits for, its Response, and what is to be done once it is heard of,
+    or None if nothing came in time."""
+
+    __slots__ = ("peer", "state", "response", "future")
+
+    def __init__(self, peer: _Peer, state: Device):
+        self.peer, self.state = peer, state
+        self.response: Optional[_Response] = None
+        self.future: Optional[asyncio.Future[Optional[Step]]] = None
+
+    def heard(self, step: Optional[Step]) -> None:
+        if self.future is not None and not self.future.done():
+            self.future.set_result(step)
 
 
 class Client:
@@ -90,10 +100,9 @@ class Client:
         self._peers: Dict[Tuple[str, int], _Peer] = {}
         self._by_address: Dict[Tuple[Any, ...], _Peer] = {}
         self._sockets: Dict[int, socket.socket] = {}
-        self._waiting: Dict[int, _Waiting] = {}
-        self._responses: Dict[int, _Response] = {}
-        self._first_id = secrets.randbelow(1 << 31)
-        self._request_id = secrets.randbelow(1 << 31)
+        self._requests: Dict[int, _Peer] = {}  # by request-id
+        self._waiting: Dict[Tuple[Manager, int], _Waiting] = {}
+        self._first_id = secrets.randbits(31)
         self._salt = secrets.randbits(64)
         self._turn = asyncio.Lock()
         self._loop: Optional[asyncio.AbstractEventLoop] = None
@@ -128,8 +137,8 @@ class Client:
         return self._manager.saved()
 
     def save(self, path: Path) -> None:
-        """Puts the saved text in the place of a file."""
-        replace(path, self.saved())
+        """Joins the saved text into a file, as `snmpsec merge-clocks` does, whoever else does so."""
+        save_clocks(path, self.saved())
 
     def absorb(self, text: Buffer) -> None:
         """Joins in what another station knows. BadClocks: it is no saved text."""
@@ -137,7 +146,7 @@ class Client:
 
     def load(self, path: Path) -> None:
         """Joins in a file of another station, or of this one before."""
-        self.absorb(read_whole(path))
+        self.absorb(read_clocks(path))
 
     # -- requests
 
@@ -209,23 +218,31 @@ class Client:
         turn = None if peer.holds_clock else peer.turn
         if turn is not None:
             await turn.acquire()
+        request_id = self._new_request_id(peer)
         try:
-            state = Device(target.level, self._known(peer))
-            request_id = self._request_id = (self._request_id + 1) % (1 << 31)
-            step = state.step
+            waiting = _Waiting(peer, Device(target.level, self._known(peer)))
+            step = waiting.state.step
             while True:
                 if step is Step.SEND_REQUEST and turn is not None:
                     turn.release()
                     turn = None
-                token, message = self._write(step, target, peer, pdu, octets, request_id, numbers)
-                step = await self._exchange(target, peer, state, token, message)
-                if step is Step.ANSWERED:
-                    return self._responses.pop(token)
+                manager, token = self._write(step, target, peer, pdu, octets, request_id, numbers)
+                step = await self._exchange(target, waiting, manager, token)
+                if step is Step.ANSWERED and waiting.response is not None:
+                    return waiting.response
                 if step is Step.DENIED:
-                    raise ReportReceived(target, state.counter)
+                    raise ReportReceived(target, waiting.state.counter)
         finally:
+            del self._requests[request_id]
             if turn is not None:
                 turn.release()
+
+    def _new_request_id(self, peer: _Peer) -> int:
+        """One that no other request has that waits, and that nobody can guess who was asked before."""
+        while (number := secrets.randbits(31)) in self._requests:
+            pass
+        self._requests[number] = peer
+        return number
 
     def _known(self, peer: _Peer) -> Known:
         if peer.engine is None:
@@ -233,30 +250,30 @@ class Client:
         peer.holds_clock = peer.holds_clock or self._manager.clock(peer.engine) is not None
         return Known.CLOCK if peer.holds_clock else Known.ENGINE
 
-    def _write(self, step: Step, target: Target, peer: _Peer, pdu: Pdu, octets: bytes, request_id: int, numbers: Tuple[int, int]) -> Tuple[int, bytes]:
-        """What is sent next, and its token."""
+    def _write(self, step: Step, target: Target, peer: _Peer, pdu: Pdu, octets: bytes, request_id: int,
+               numbers: Tuple[int, int]) -> Tuple[Manager, int]:
+        """What is sent next: the manager that has written it, and its token."""
         if step is Step.SEND_DISCOVERY:
-            token = self._manager.ask_discovery(self._first_id)
-        else:
-            is_request = step is Step.SEND_REQUEST
-            token = self._manager.ask(
-                int(time.time()), pdu if is_request else Pdu.GET, engine=peer.engine or b"", user=target.user.encode(),
-                level=target.level if is_request else Level.AUTH_NO_PRIV, octets=octets if is_request else b"", salt=self._next_salt(),
-                message_id=self._first_id, request_id=request_id, error_status=numbers[0] if is_request else 0,
-                error_index=numbers[1] if is_request else 0, context_engine=target.context_engine, context_name=target.context)
-        message = self._manager.message()
-        assert message is not None
-        return token, message
+            peer.discovery = Manager(b"")
+            return peer.discovery, peer.discovery.ask_discovery(secrets.randbits(31))
+        level = target.level
+        if step is Step.SEND_TIME_REQUEST:
+            pdu, octets, numbers, level = Pdu.GET, b"", (0, 0), Level.AUTH_NO_PRIV
+        return self._manager, self._manager.ask(
+            int(time.time()), pdu, engine=peer.engine or b"", user=target.user.encode(), level=level, octets=octets,
+            salt=self._next_salt(), message_id=self._first_id, request_id=request_id, error_status=numbers[0],
+            error_index=numbers[1], context_engine=target.context_engine, context_name=target.context)
 
     def _next_salt(self) -> int:
         """It begins at a random number, and counts on, so that none comes again (RFC 3826, section 3.1.2.1)."""
         self._salt = (self._salt + 1) % (1 << 64)
         return self._salt
 
-    async def _exchange(self, target: Target, peer: _Peer, state: Device, token: int, message: bytes) -> Step:
-        """Sends a message until something is to be done."""
-        loop = asyncio.get_running_loop()
-        waiting = self._waiting[token] = _Waiting(peer, state)
+    async def _exchange(self, target: Target, waiting: _Waiting, manager: Manager, token: int) -> Step:
+        """Sends the manager's message until something is to be done."""
+        loop, peer, message = asyncio.get_running_loop(), waiting.peer, manager.message()
+        assert message is not None
+        self._waiting[manager, token] = waiting
         try:
             for _ in range(1 + self.retries):
                 waiting.future = loop.create_future()
@@ -268,13 +285,15 @@ class Client:
                     timer.cancel()
                 if step is not None:
                     return step
-            if state.counter == _UNKNOWN_ENGINES:
+            if waiting.state.counter == _UNKNOWN_ENGINES:
                 peer.engine, peer.holds_clock = None, False  # the next request discovers it
-            raise NoAnswer(target, state.counter, peer.refusal, peer.engine is not None)
+            raise NoAnswer(target, waiting.state.counter, peer.refusal, peer.engine is not None)
         finally:
-            del self._waiting[token]
-            if token not in self._responses:
-                self._manager.give_up(token)
+            del self._waiting[manager, token]
+            manager.give_up(token)
+            if manager is peer.discovery:
+                peer.discovery = None
+                manager.close()
 
     async def _peer(self, target: Target) -> _Peer:
         """What is known of the target's address. It is looked up, and a socket is there of its family."""
@@ -289,7 +308,7 @@ class Client:
                 own.setsockopt(socket.SOL_SOCKET, socket.SO_RCVBUF, _RECEIVED)
                 loop.add_reader(own, self._receive, own)
                 self._loop = loop
-            return self._peers.setdefault(place, self._by_address.setdefault(address[:2], _Peer(family, address)))
+            return self._peers.setdefault(place, self._by_address.setdefault(_place(address), _Peer(family, address)))
 
     # -- what comes
 
@@ -307,28 +326,38 @@ class Client:
             self._sockets[peer.family].sendto(message, peer.address)
 
     def _take(self, datagram: bytes, address: Tuple[Any, ...]) -> None:
-        peer = self._by_address.get(address[:2])
-        refusal = self._manager.take(int(time.time()), datagram)
-        if refusal is not None:
-            if peer is not None:
-                peer.refusal = refusal
-            return
-        answered = self._manager.answered()
-        waiting = self._waiting.get(answered.token) if answered else None
-        if answered is None or waiting is None:
-            return
-        if answered.is_response or answered.is_authentic or waiting.peer is peer:
-            self._hear(answered, waiting)  # (any other can be anybody's, from elsewhere)
+        peer = self._by_address.get(_place(address))
+        if peer is None or peer.discovery is None or not self._answers(peer.discovery, datagram, peer):
+            self._answers(self._manager, datagram, peer)
 
-    def _hear(self, answered: Answered, waiting: _Waiting) -> None:
+    def _answers(self, manager: Manager, datagram: bytes, peer: Optional[_Peer]) -> bool:
+        """Whether the datagram answers what the manager asks. What isn't authentic can be anybody's, unless it is of
+        the peer that was asked."""
+        refusal = manager.take(int(time.time()), datagram)
+        if refusal is not None and peer is not None and manager is self._manager:
+            peer.refusal = refusal
+        info = manager.info()
+        if info is None:
+            return False
+        if info.pdu == Pdu.RESPONSE and info.level is Level.NO_AUTH_NO_PRIV:
+            if peer is None or self._requests.get(info.request_id) is not peer:
+                return False  # (the library would end the request)
+        answered = manager.answered()
+        waiting = self._waiting.get((manager, answered.token)) if answered else None
+        if answered is None or waiting is None:
+            return False
+        if not (answered.is_response or answered.is_authentic or waiting.peer is peer):
+            return False
+        self._hear(manager, info, answered, waiting)
+        return True
+
+    def _hear(self, manager: Manager, info: Info, answered: Answered, waiting: _Waiting) -> None:
         """A message answers what was sent last of a request."""
         peer = waiting.peer
         if answered.is_response:
-            info = self._manager.info()
-            assert info is not None
-            self._responses[answered.token] = _Response(info.error_status, info.error_index, self._manager.part(Part.BINDINGS) or b"")
+            waiting.response = _Response(info.error_status, info.error_index, manager.part(Part.BINDINGS) or b"")
         elif answered.report_of == _UNKNOWN_ENGINES and peer.engine is None:
-            peer.engine = self._manager.part(Part.ENGINE)
+            peer.engine = manager.part(Part.ENGINE)
         step = waiting.state.hear(answered, self._known(peer) is Known.CLOCK)
         if step is not Step.WAIT:
             waiting.heard(step)

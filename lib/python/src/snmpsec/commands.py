@@ -1,6 +1,7 @@
 """The commands snmpsec-get, -next, -bulk, -walk, -set, -trap and -listen. Not proved; the library accepts and writes each message.
 
-Status 0: it was done. 1: the device didn't answer, or refused it. 2: the command line is wrong, or a file can't be used.
+Status 0: it was done. 1: the device didn't answer, refused it, or sent a value that isn't one. 2: the command line is
+wrong, or a file can't be used.
 """
 from __future__ import annotations
 
@@ -10,16 +11,17 @@ import getpass
 import json
 import os
 import re
+import signal
 import sys
 from ipaddress import IPv4Address
 from typing import Any, Awaitable, Callable, Dict, List, Optional, Sequence, Tuple
 
 from . import NO_CLOCKS, Error, Level, wiped
 from .aio import Client, Listener, Notification, SnmpError, Target, TrapSender, configuration
-from .files import read_whole
+from .files import clocks_at
 from .names import name_of
 from .printing import as_json, line
-from .values import Counter32, Counter64, Gauge32, ObjectId, TimeTicks, Value, Variable
+from .values import BadValue, Counter32, Counter64, Gauge32, ObjectId, TimeTicks, Value, Variable
 
 __all__ = ["bulk", "get", "get_next", "listen", "set_variables", "trap", "walk"]
 
@@ -30,7 +32,7 @@ CIPHERS = ("AES", "AES-128", "AES128")
 PASSWORDS = {"auth": "SNMPSEC_AUTH_PASSWORD", "priv": "SNMPSEC_PRIV_PASSWORD"}
 EPILOG = """Passwords are read from the file of --config, from the environment (SNMPSEC_AUTH_PASSWORD, SNMPSEC_PRIV_PASSWORD), or from the terminal.
 -A and -X take them from the command line, where other users of the machine can read them, only with --insecure-passwords.
-Status 0: it was done; 1: no answer, or a refusal; 2: the command line or a file is wrong."""
+Status 0: it was done; 1: no answer, a refusal, or a value that isn't one; 2: the command line or a file is wrong."""
 SET_FORM = "NAME TYPE VALUE: i integer, u unsigned, c counter, t ticks, a address, o object, s text, x hex, d decimal octets, n null"
 Work = Callable[[argparse.Namespace], Awaitable[int]]
 
@@ -58,13 +60,14 @@ def _asking(name: str, what: str) -> argparse.ArgumentParser:
     parser = _parser(name, what)
     parser.add_argument("-t", metavar="SECONDS", type=float, default=1.0, dest="timeout", help="how long an answer is waited for (1)")
     parser.add_argument("-r", metavar="COUNT", type=int, default=5, dest="retries", help="how often a request is sent again (5)")
-    parser.add_argument("--clocks", metavar="FILE", help="a saved text of clocks, which is read before and written after")
+    parser.add_argument("--clocks", metavar="FILE",
+                        help="the saved clocks of engines, which are read before; what was learned is joined in after")
     parser.add_argument("host", metavar="HOST[:PORT]", help="a device: a name, an address, or [IPV6]:PORT")
     return parser
 
 
 def place_of(word: str, port: int = 161) -> Tuple[str, int]:
-    """The host and the port of a word. Usage: it is none.
+    """The host and the port of a word. Usage: it isn't one.
 
     >>> place_of("[2001:db8::1]:1161"), place_of("2001:db8::1"), place_of("router:1161"), place_of("udp:router")
     (('2001:db8::1', 1161), ('2001:db8::1', 161), ('router', 1161), ('router', 161))
@@ -121,26 +124,25 @@ def _target(given: argparse.Namespace, port: int = 161) -> Target:
 
 
 def _client(given: argparse.Namespace) -> Client:
-    clocks = NO_CLOCKS
-    if given.clocks is not None and os.path.exists(given.clocks):
-        clocks = read_whole(given.clocks)
+    clocks = NO_CLOCKS if given.clocks is None else clocks_at(given.clocks)
     client: Client = _with_configuration(given, lambda config: Client(config, clocks=clocks, timeout=given.timeout, retries=given.retries))
     return client
 
 
-def _print(variables: Sequence[Variable], is_json: bool) -> None:
+def _print(variables: Sequence[Variable], is_json: bool) -> bool:
+    """Whether none is a BadValue."""
     for it in variables:
         print(json.dumps(as_json(it)) if is_json else line(it))
+    return not any(isinstance(it.value, BadValue) for it in variables)
 
 
-async def _with_client(given: argparse.Namespace, work: Callable[[Client, Target], Awaitable[None]]) -> int:
+async def _with_client(given: argparse.Namespace, work: Callable[[Client, Target], Awaitable[bool]]) -> int:
     async with _client(given) as client:
         try:
-            await work(client, _target(given))
+            return 0 if await work(client, _target(given)) else 1
         finally:
             if given.clocks is not None:
                 client.save(given.clocks)
-    return 0
 
 
 def _run(parser: argparse.ArgumentParser, work: Work) -> int:
@@ -172,8 +174,8 @@ def _reads(name: str, what: str, ask: Callable[[Client, Target, argparse.Namespa
     parser.add_argument("names", metavar="NAME", nargs="+", help="a variable, as 1.3.6.1.2.1.1.5.0 or sysName.0")
 
     async def work(given: argparse.Namespace) -> int:
-        async def once(client: Client, target: Target) -> None:
-            _print(await ask(client, target, given), given.json)
+        async def once(client: Client, target: Target) -> bool:
+            return _print(await ask(client, target, given), given.json)
 
         return await _with_client(given, once)
 
@@ -207,13 +209,9 @@ def walk() -> int:
     async def work(given: argparse.Namespace) -> int:
         root = name_of(given.name)
 
-        async def through(client: Client, target: Target) -> None:
-            found = False
-            async for it in client.walk(target, root):
-                found = True
-                _print([it], given.json)
-            if not found:
-                _print(await client.get(target, root), given.json)
+        async def through(client: Client, target: Target) -> bool:
+            found = [_print([it], given.json) async for it in client.walk(target, root)]
+            return all(found) if found else _print(await client.get(target, root), given.json)
 
         return await _with_client(given, through)
 
@@ -263,8 +261,8 @@ def set_variables() -> int:
     async def work(given: argparse.Namespace) -> int:
         variables = _given_variables(given.words)
 
-        async def once(client: Client, target: Target) -> None:
-            _print(await client.set(target, variables), given.json)
+        async def once(client: Client, target: Target) -> bool:
+            return _print(await client.set(target, variables), given.json)
 
         return await _with_client(given, once)
 
@@ -304,9 +302,11 @@ def trap() -> int:
     async def work(given: argparse.Namespace) -> int:
         variables, name, target = _given_variables(given.words), name_of(given.notification), _target(given, 162)
         if given.inform:
-            async with _client(given) as client:
+            async def inform(client: Client, _: Target) -> bool:
                 await client.inform(target, name, variables)
-            return 0
+                return True
+
+            return await _with_client(given, inform)
         engine, boots = _engine(given.engine), _boots(given)
         with _with_configuration(given, lambda config: TrapSender(config, engine=engine, boots=boots)) as sender:
             sender.send(target, name, variables)
@@ -315,37 +315,66 @@ def trap() -> int:
     return _run(parser, work)
 
 
+def _level_word(level: Level) -> str:
+    return next(word for word, it in LEVELS.items() if it is level)
+
+
 def _print_notification(it: Notification, is_json: bool) -> None:
-    kind = "inform" if it.is_inform else "trap"
+    kind, level = "inform" if it.is_inform else "trap", _level_word(it.level)
     host, port = it.address
     if is_json:
-        print(json.dumps({"kind": kind, "from": host, "port": port, "user": it.user, "level": int(it.level), "engine": it.context_engine.hex(),
-                          "context": it.context_name.decode(errors="replace"), "variables": [as_json(one) for one in it.variables]}), flush=True)
+        told = {"kind": kind, "from": host, "port": port, "user": it.user, "level": level,
+                "engine": it.context_engine.hex(), "context": it.context_name.decode(errors="replace"),
+                "variables": [as_json(one) for one in it.variables]}
+        print(json.dumps(told), flush=True)
         return
-    print(f"{kind} from {host} port {port} user {it.user} engine {it.context_engine.hex()}")
+    print(f"{kind} from {host} port {port} user {it.user} level {level} engine {it.context_engine.hex()}")
     for one in it.variables:
         print(f"    {line(one)}")
     sys.stdout.flush()
 
 
+def _print_dropped(listener: Listener) -> None:
+    for it in [f"{count}: {why}" for why, count in listener.dropped.most_common()] or ["0"]:
+        print(f"snmpsec-listen: dropped {it}", file=sys.stderr, flush=True)
+
+
+async def _print_notifications(listener: Listener, count: Optional[int], is_json: bool) -> None:
+    """Until so many have come, or SIGTERM."""
+    loop = asyncio.get_running_loop()
+    loop.add_signal_handler(signal.SIGUSR1, _print_dropped, listener)
+    loop.add_signal_handler(signal.SIGTERM, listener.end)
+    left = count
+    async for it in listener:
+        _print_notification(it, is_json)
+        left = None if left is None else left - 1
+        if left == 0:
+            return
+
+
 def listen() -> int:
     """snmpsec-listen: prints the notifications that come."""
-    parser = _parser("listen", "Print the notifications that come, and acknowledge Informs.")
+    parser = _parser("listen", "Print the notifications that come, and acknowledge Informs. What is dropped is "
+                     "counted: SIGUSR1 prints the counts.")
     _own_engine(parser)
     parser.add_argument("--count", metavar="COUNT", type=int, help="end after so many")
+    parser.add_argument("--least-level", metavar="LEVEL", choices=sorted(LEVELS), help="drop notifications below this "
+                        "level (the highest level for which their user has passwords)")
+    parser.add_argument("--clocks", metavar="FILE",
+                        help="the saved clocks of the senders, which are read before and saved as they are learned")
     parser.add_argument("host", metavar="[ADDRESS:]PORT", nargs="?", default="0.0.0.0:162", help="where to listen (0.0.0.0:162)")
 
     async def work(given: argparse.Namespace) -> int:
         engine, boots = _engine(given.engine), _boots(given)
         host, port = ("0.0.0.0", int(given.host)) if given.host.isdecimal() else place_of(given.host, 162)
-        listener: Listener = _with_configuration(given, lambda config: Listener(config, engine=engine, boots=boots, host=host, port=port))
-        async with listener as notifications:
-            left = given.count
-            async for it in notifications:
-                _print_notification(it, given.json)
-                left = None if left is None else left - 1
-                if left == 0:
-                    return 0
+        least = None if given.least_level is None else LEVELS[given.least_level]
+        listener: Listener = _with_configuration(given, lambda config: Listener(
+            config, engine=engine, boots=boots, host=host, port=port, clocks=given.clocks, least_level=least))
+        async with listener:
+            try:
+                await _print_notifications(listener, given.count, given.json)
+            finally:
+                _print_dropped(listener)
         return 0
 
     return _run(parser, work)

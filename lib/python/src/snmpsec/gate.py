@@ -78,8 +78,8 @@ class GateSent(NamedTuple):
     client: Optional[bytes]
     datagram: Optional[bytes]
     why: Optional[Refusal]
-    status: Optional[int]
-    index: Optional[int]
+    error_status: Optional[int]
+    error_index: Optional[int]
 
 
 class GateDevice(NamedTuple):

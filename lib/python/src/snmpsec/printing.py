@@ -10,7 +10,7 @@ from __future__ import annotations
 from ipaddress import IPv4Address
 from typing import Any, Dict, List
 
-from .values import Counter32, Counter64, Exceptional, Gauge32, ObjectId, Opaque, TimeTicks, Value, Variable
+from .values import BadValue, Counter32, Counter64, Exceptional, Gauge32, ObjectId, Opaque, TimeTicks, Value, Variable
 
 __all__ = ["as_json", "line", "words"]
 
@@ -47,6 +47,8 @@ def words(value: Value) -> str:
         return _MISSING[value]
     if value is None:
         return "NULL"
+    if isinstance(value, BadValue):
+        return f"Bad value: tag {value.tag:02X}, {value.content.hex(' ').upper() or 'no octets'}"
     if isinstance(value, TimeTicks):
         return f"Timeticks: ({value}) {_duration(value)}"
     if isinstance(value, (Counter32, Counter64, Gauge32)):
@@ -86,10 +88,14 @@ def as_json(variable: Variable) -> Dict[str, Any]:
     {'name': '1.3.6.1.2.1.1.5.0', 'type': 'OCTET STRING', 'value': 'router', 'hex': '726f75746572'}
     >>> as_json(Variable(ObjectId("1.3.6.1.2.1.1.9.9"), Exceptional.NO_SUCH_OBJECT))
     {'name': '1.3.6.1.2.1.1.9.9', 'type': 'noSuchObject', 'value': None}
+    >>> as_json(Variable(ObjectId("1.3.6.1.2.1.1.3.0"), BadValue(0x43, b"")))
+    {'name': '1.3.6.1.2.1.1.3.0', 'type': 'BadValue', 'value': None, 'tag': 67, 'hex': ''}
     """
     value = variable.value
     made: Dict[str, Any] = {"name": str(variable.name), "type": _type(value), "value": None}
-    if isinstance(value, bytes):
+    if isinstance(value, BadValue):
+        made.update(tag=value.tag, hex=value.content.hex())
+    elif isinstance(value, bytes):
         try:
             made["value"] = value.decode()
         except UnicodeDecodeError:

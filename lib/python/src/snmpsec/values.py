@@ -12,7 +12,7 @@
     -129
 
 An INTEGER is an int, an OCTET STRING is bytes, an IpAddress is an IPv4Address, and NULL is None. The exceptions of a Response (RFC 3416, section 3)
-are values of Exceptional, each of which is false.
+are values of Exceptional, each of which is false. What isn't a value of its tag is a BadValue.
 """
 from __future__ import annotations
 
@@ -20,8 +20,8 @@ from enum import Enum
 from ipaddress import IPv4Address
 from typing import NamedTuple, Sequence, Tuple, Union
 
-__all__ = ["Counter32", "Counter64", "END_OF_MIB_VIEW", "Exceptional", "Gauge32", "NO_SUCH_INSTANCE", "NO_SUCH_OBJECT", "Name", "ObjectId", "Opaque",
-           "TimeTicks", "Value", "Variable", "decode", "encode"]
+__all__ = ["BadValue", "Counter32", "Counter64", "END_OF_MIB_VIEW", "Exceptional", "Gauge32", "NO_SUCH_INSTANCE",
+           "NO_SUCH_OBJECT", "Name", "ObjectId", "Opaque", "TimeTicks", "Value", "Variable", "decode", "encode"]
 
 _MOST_ARCS = 128
 
@@ -112,8 +112,20 @@ class Opaque(bytes):
         return f"Opaque({super().__repr__()})"
 
 
+class BadValue(NamedTuple):
+    """What came instead of a value: the content isn't that of a value with the tag, or no value has the tag (RFC 3416,
+    section 3).
+
+    >>> decode(0x40, b"192.0.2.7")
+    BadValue(tag=64, content=b'192.0.2.7')
+    """
+
+    tag: int
+    content: bytes
+
+
 class Exceptional(Enum):
-    """What stands in the place of a value (RFC 3416, section 3)."""
+    """What stands instead of a value (RFC 3416, section 3)."""
 
     NO_SUCH_OBJECT = 0x80
     NO_SUCH_INSTANCE = 0x81
@@ -125,7 +137,7 @@ class Exceptional(Enum):
 
 NO_SUCH_OBJECT, NO_SUCH_INSTANCE, END_OF_MIB_VIEW = Exceptional.NO_SUCH_OBJECT, Exceptional.NO_SUCH_INSTANCE, Exceptional.END_OF_MIB_VIEW
 
-Value = Union[int, bytes, ObjectId, IPv4Address, Exceptional, None]
+Value = Union[int, bytes, ObjectId, IPv4Address, Exceptional, BadValue, None]
 
 
 class Variable(NamedTuple):
@@ -137,6 +149,7 @@ class Variable(NamedTuple):
 
 _INTEGER, _OCTETS, _NULL, _OBJECT_ID, _ADDRESS, _OPAQUE = 0x02, 0x04, 0x05, 0x06, 0x40, 0x44
 _NUMBERS = {0x41: Counter32, 0x42: Gauge32, 0x43: TimeTicks, 0x46: Counter64}
+_EXCEPTIONS = {it.value: it for it in Exceptional}
 _NUMBER_TAGS = {kind: tag for tag, kind in _NUMBERS.items()}
 
 
@@ -194,22 +207,34 @@ def _arcs_of(content: bytes) -> ObjectId:
     return ObjectId((first, arcs[0] - first * 40, *arcs[1:]))
 
 
+def _number_of(tag: int, content: bytes) -> int:
+    """ValueError: it is out of the range of its type. A number without a sign may lack the octet that says so, as some
+    devices send it."""
+    value = int.from_bytes(content, "big", signed=True)
+    if tag == _INTEGER:
+        if -(1 << 31) <= value < 1 << 31:
+            return value
+        raise ValueError
+    kind = _NUMBERS[tag]
+    return kind(value % (1 << kind.bits) if len(content) * 8 == kind.bits else value)
+
+
 def decode(tag: int, content: bytes) -> Value:
-    """The value of a tag and a content, as a message has them that was accepted. ValueError: there is no such value."""
-    if tag == _INTEGER and content:
-        return int.from_bytes(content, "big", signed=True)
-    if tag == _OCTETS:
-        return content
-    if tag in _NUMBERS and content:
-        return _NUMBERS[tag](int.from_bytes(content, "big", signed=True) % (1 << _NUMBERS[tag].bits))
-    if tag == _OBJECT_ID and content and content[-1] < 128:
-        return _arcs_of(content)
-    if tag == _ADDRESS and len(content) == 4:
-        return IPv4Address(content)
-    if tag == _OPAQUE:
-        return Opaque(content)
-    if tag == _NULL:
-        return None
-    if tag in (0x80, 0x81, 0x82):
-        return Exceptional(tag)
-    raise ValueError(f"no value has tag 0x{tag:02x} and the content {content.hex() or 'of no octets'}")
+    """The value of a tag and a content, as a message has them that was accepted; a BadValue if there is no such
+    value."""
+    try:
+        if content and (tag == _INTEGER or tag in _NUMBERS):
+            return _number_of(tag, content)
+        if tag == _OCTETS:
+            return content
+        if tag == _OBJECT_ID and content and content[-1] < 128:
+            return _arcs_of(content)
+        if tag == _ADDRESS and len(content) == 4:
+            return IPv4Address(content)
+        if tag == _OPAQUE:
+            return Opaque(content)
+        if not content and (tag == _NULL or tag in _EXCEPTIONS):
+            return _EXCEPTIONS.get(tag)
+    except ValueError:
+        pass
+    return BadValue(tag, content)
