@@ -1,9 +1,10 @@
 #!/usr/bin/env python3
-"""The saved clocks after a log of any size, by a Dask cluster: the log is a bag of pieces, each is replayed by a worker, and the clocks are
-joined as a tree.
+"""The saved clocks after a log of any size, by a Dask cluster: the log is a bag of pieces, each is replayed by a
+worker, and the clocks are joined as a tree.
 
-The file names have to mean the same on every worker (a shared folder), and each worker has the program. Without --scheduler a cluster of
-processes on this machine is begun. Progress is on the scheduler's dashboard, whose address is told on standard error.
+The file names have to mean the same on every worker (a shared folder), and each worker has the program. Without
+--scheduler a cluster of processes on this machine is begun. Progress is on the scheduler's dashboard, whose address is
+reported on standard error.
 """
 import argparse
 import os
@@ -32,7 +33,7 @@ def cuts(log, block):
 
 
 def printed(words, **how):
-    """What a command prints; what it says on standard error is told where it fails."""
+    """What a command prints; what it says on standard error is reported where it fails."""
     done = subprocess.run(words, stdout=subprocess.PIPE, stderr=subprocess.PIPE, check=False, **how)
     if done.returncode:
         raise RuntimeError(f"{' '.join(words)}: {(done.stderr or done.stdout).decode(errors='replace').strip()}")
@@ -40,10 +41,13 @@ def printed(words, **how):
 
 
 def replayed(piece, program, moment, config, clocks, log):
-    """The clocks that a piece brings. The piece is handed on as it is read, so that no more of it is held at once than a chunk."""
+    """The clocks that a piece brings. The piece is handed on as it is read, so that no more of it is held at once than
+    a chunk."""
     first, last = piece
     words = [program, "replay", "--clocks-only", "--moment", moment, config, clocks, "/dev/stdin"]
-    with tempfile.TemporaryFile() as told, subprocess.Popen(words, stdin=subprocess.PIPE, stdout=told, stderr=subprocess.PIPE) as running, open(log, "rb") as file:
+    with tempfile.TemporaryFile() as told, subprocess.Popen(
+        words, stdin=subprocess.PIPE, stdout=told, stderr=subprocess.PIPE
+    ) as running, open(log, "rb") as file:
         file.seek(first)
         try:
             while first < last:
@@ -73,10 +77,14 @@ def joined(texts, program):
 
 
 def main():
-    parser = argparse.ArgumentParser(description=__doc__.partition("\n")[0])
+    parser = argparse.ArgumentParser(description=__doc__.split("\n\n")[0])
     parser.add_argument("--scheduler", metavar="ADDRESS", help="of a cluster, as tcp://station:8786")
-    parser.add_argument("--workers", metavar="N", type=int, default=os.cpu_count(), help="processes of a cluster on this machine")
-    parser.add_argument("--block", metavar="OCTETS", type=int, default=64 << 20, help="size of a piece (it has at most 1000000 lines)")
+    parser.add_argument(
+        "--workers", metavar="N", type=int, default=os.cpu_count(), help="processes of a cluster on this machine"
+    )
+    parser.add_argument(
+        "--block", metavar="OCTETS", type=int, default=64 << 20, help="size of a piece (it has at most 1000000 lines)"
+    )
     parser.add_argument("--moment", metavar="MOMENT", default="0", help="when clocks without moments were seen")
     parser.add_argument("--program", default=os.environ.get("SNMPSEC", "snmpsec"))
     parser.add_argument("config")
@@ -89,11 +97,17 @@ def main():
     if not pieces:  # (an empty log saves what it begins with)
         sys.stdout.buffer.write(begin)
         return
-    cluster = None if asked.scheduler else LocalCluster(n_workers=asked.workers, threads_per_worker=1, dashboard_address=":0")
+    cluster = (
+        None if asked.scheduler else LocalCluster(n_workers=asked.workers, threads_per_worker=1, dashboard_address=":0")
+    )
     with Client(asked.scheduler or cluster) as client:
         print(f"{len(pieces)} pieces; progress: {client.dashboard_link}", file=sys.stderr)
-        bag = dask.bag.from_sequence(pieces, npartitions=len(pieces)).map(replayed, asked.program, asked.moment, config, clocks, log)
-        whole = bag.reduction(lambda texts: joined(texts, asked.program), lambda texts: joined(texts, asked.program), split_every=8)
+        bag = dask.bag.from_sequence(pieces, npartitions=len(pieces)).map(
+            replayed, asked.program, asked.moment, config, clocks, log
+        )
+        whole = bag.reduction(
+            lambda texts: joined(texts, asked.program), lambda texts: joined(texts, asked.program), split_every=8
+        )
         sys.stdout.buffer.write(whole.compute())
     if cluster:
         cluster.close()

@@ -1,6 +1,6 @@
 #!/usr/bin/env bash
-# Tries the ways of docs/large-logs.md on a small log: each gives the octets of one replay. What isn't installed is told by a line and left out:
-# apt-get install parallel python3-distributed openssh-server rsync python3-matplotlib
+# Tries the ways of docs/large-logs.md on a small log: each gives the octets of one replay. What isn't installed is
+# reported by a line and left out: apt-get install parallel python3-distributed openssh-server rsync python3-matplotlib
 #
 # usage: test.sh [PROGRAM]        (./snmpsec of this repository)
 set -u
@@ -46,7 +46,8 @@ if ! command -v parallel > /dev/null; then
   echo "skipped: GNU parallel isn't installed"
 else
   split -l 2000 -d -a 4 log piece.
-  parallel --will-cite -j 4 --halt now,fail=1 "$SNMPSEC" replay --clocks-only config.toml begin.clocks {} '>' {}.clocks ::: piece.????
+  parallel --will-cite -j 4 --halt now,fail=1 "$SNMPSEC" replay --clocks-only config.toml begin.clocks {} '>' \
+      {}.clocks ::: piece.????
   "$SNMPSEC" merge-clocks piece.????.clocks > told
   check "pieces side by side" saved told
   "$SNMPSEC" merge-clocks piece.0003.clocks piece.000?.clocks piece.0001.clocks > told
@@ -56,7 +57,7 @@ else
   head -c 100 log | cat piece.0000 - > torn
   "$here/whole" -j 4 -l 1000 config.toml begin.clocks torn > told 2> why
   [ $? -ne 0 ] && grep -q "^snmpsec: log line 2001$" why
-  check "a line that is torn is told by its number in the whole" <(echo 0) <(echo $?)
+  check "a line that is torn is reported by its number in the whole" <(echo 0) <(echo $?)
 fi
 
 # ---- over ssh, to this machine
@@ -67,7 +68,8 @@ else
   ssh-keygen -q -t ed25519 -N '' -f keys/host
   ssh-keygen -q -t ed25519 -N '' -f keys/user
   port=$((20000 + $$ % 10000))
-  printf '%s\n' "Port $port" "ListenAddress 127.0.0.1" "HostKey $work/keys/host" "AuthorizedKeysFile $work/keys/user.pub" "PidFile none" "StrictModes no" > keys/sshd
+  printf '%s\n' "Port $port" "ListenAddress 127.0.0.1" "HostKey $work/keys/host" \
+      "AuthorizedKeysFile $work/keys/user.pub" "PidFile none" "StrictModes no" > keys/sshd
   [ -d /run/sshd ] || mkdir -p /run/sshd
   /usr/sbin/sshd -D -f keys/sshd 2> keys/told &
   pids+=($!)
@@ -79,9 +81,16 @@ else
   mkdir here
   cp config.toml begin.clocks here
   split -l 2000 -d -a 4 log here/piece.
-  (cd here && parallel --will-cite --ssh "$ssh" -S 2/127.0.0.1 --workdir .pieces-of-a-log --basefile config.toml --basefile begin.clocks --transferfile {} --return {}.clocks --cleanup \
+  (cd here && parallel --will-cite --ssh "$ssh" -S 2/127.0.0.1 --workdir .pieces-of-a-log --basefile config.toml \
+      --basefile begin.clocks --transferfile {} --return {}.clocks --cleanup \
     "$SNMPSEC" replay --clocks-only config.toml begin.clocks {} '>' {}.clocks ::: piece.????) 2> keys/parallel
-  if "$SNMPSEC" merge-clocks here/piece.????.clocks > told; then check "pieces over ssh" saved told; else failed=$((failed + 1)); echo "FAILED pieces over ssh"; cat keys/told keys/parallel; fi
+  if "$SNMPSEC" merge-clocks here/piece.????.clocks > told; then
+      check "pieces over ssh" saved told
+  else
+      failed=$((failed + 1))
+      echo "FAILED pieces over ssh"
+      cat keys/told keys/parallel
+  fi
 fi
 
 # ---- Dask
@@ -93,11 +102,14 @@ if [ -z "$python" ]; then
   echo "skipped: Dask isn't installed (python3-distributed)"
 else
   scheduler=tcp://127.0.0.1:$((30000 + $$ % 10000))
-  "$python" -m distributed.cli.dask_scheduler --host 127.0.0.1 --port "${scheduler##*:}" --dashboard-address 127.0.0.1:0 > scheduler.told 2>&1 &
+  "$python" -m distributed.cli.dask_scheduler --host 127.0.0.1 --port "${scheduler##*:}" --dashboard-address \
+      127.0.0.1:0 > scheduler.told 2>&1 &
   pids+=($!)
-  "$python" -m distributed.cli.dask_worker "$scheduler" --nworkers 2 --nthreads 1 --host 127.0.0.1 --no-dashboard --local-directory "$work" > worker.told 2>&1 &
+  "$python" -m distributed.cli.dask_worker "$scheduler" --nworkers 2 --nthreads 1 --host 127.0.0.1 --no-dashboard \
+      --local-directory "$work" > worker.told 2>&1 &
   pids+=($!)
-  timeout 60 "$python" "$here/over_dask.py" --scheduler "$scheduler" --block 500000 config.toml begin.clocks log > told 2> why || cat why
+  timeout 300 "$python" "$here/over_dask.py" --scheduler "$scheduler" --block 500000 config.toml begin.clocks \
+      log > told 2> why || cat why
   check "a bag of pieces over a scheduler and workers" saved told
 fi
 
