@@ -25,6 +25,7 @@ use Rattle.snmp_gate.specs.Fits.{IsFitTold}
 use Rattle.snmp_gate.specs.Hidden.{IsHiddenTold}
 use Rattle.snmp_gate.specs.RequestTags.{IsNumberOfNone, IsTagOf}
 use Rattle.snmp_gate.specs.Runs as runs
+use Rattle.snmp_gate.specs.Untaken.{HasCause}
 use Rattle.snmp_gate.specs.Waiting.{Fresh, GateStands, IsAsBefore, IsRefusedBy, Stays, fresh}
 use Rattle.snmp_gate.specs.declared.devices.Device.{Device}
 use Rattle.snmp_gate.specs.declared.limits.GateLimits.{GateLimits}
@@ -222,7 +223,7 @@ TellsClient client.NoRoom told new = (told ≡ Ok event.NoRoom) × IsQuiet new
 TellsClient client.SetOfBefore told new = (told ≡ Ok event.SetOfBefore) × IsQuiet new
 
 -- The datagram is taken as the gateway promises. What happens by that is lawful; a refusal has its cause and its
--- report, and changes the agent alone; and a datagram that isn't taken leaves all as before.
+-- report, and changes the agent alone; and a datagram that isn't taken has its cause, and leaves all as before.
 pub record TookClient (old : GateHeld) (now : ℕ) (from datagram : List ℕ) (told : Result GateEvent CallFault)
     (new : GateHeld) : Type 0 where
   pub taken : ClientTaken
@@ -230,6 +231,7 @@ pub record TookClient (old : GateHeld) (now : ℕ) (from datagram : List ℕ) (t
   pub takes : runs.TakesClient old.gate now from datagram taken new.gate
   pub refused : IsRefusedBy old.gate (now / 1000) datagram new.gate taken
   pub untaken : IsUntaken taken → IsAsBefore now old.gate new.gate
+  pub cause : HasCause old.gate now datagram taken
 
 abbrev pub TakesClient : GateHeld → ℕ → List ℕ → List ℕ → Result GateEvent CallFault → GateHeld → Type 0
 TakesClient old now from datagram told new = KeepsSaid old new

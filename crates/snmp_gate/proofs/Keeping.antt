@@ -54,7 +54,8 @@ pub unnoted : (now : ℕ) (digest : Option (List ℕ)) (w : Work) (a b c : List 
 unnoted now digest w a b c noted.NoSet is un = inl (un ∙ is.1)
 unnoted now digest w a b c noted.Now is un =
     inr (un ∙ ap (λ (x : List RememberedSet). take (length x - 1) x) is.2.2 ∙ pushed_off (lasting now a) (new_set now is.0))
-unnoted now digest w a b c noted.Before is un = subst (KeepsSets now a) (sym un) is
+unnoted now digest w a b c noted.Before is un = subst (KeepsSets now a) (sym un) (inr is.2.1.1)
+unnoted now digest w a b c noted.NoRoom is un = subst (KeepsSets now a) (sym un) (inr is.2.2)
 
 -- a gateway with the same requests and asks, which remembers what may still come
 pub stands_kept : (now : ℕ) (old new : Gate) → new.agent.tables ≡ old.agent.tables → new.devices ≡ old.devices → asks_in new.asks.items ≡ asks_in old.asks.items → groups_of new.requests.list.items ≡ groups_of old.requests.list.items

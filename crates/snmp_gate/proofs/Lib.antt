@@ -36,3 +36,4 @@ pub mod Bounded
 pub mod Todos
 pub mod AtOnce
 pub mod Through
+pub mod Untaken

@@ -132,23 +132,25 @@ module _ (tables : Tables) (devices : List Device) (before : List Happening) (ne
 
 -- ---- a message that begins a request
 
-task_asks : (tables : Tables) (devices : List Device) (q : Question) (w : Work) → BeginsWell tables devices q w → AsksSet w → q.tag ≡ pdu_tag SetRequest
+pub task_asks : (tables : Tables) (devices : List Device) (q : Question) (w : Work) → BeginsWell tables devices q w → AsksSet w → q.tag ≡ pdu_tag SetRequest
 task_asks tables devices q (Open o) well set = let known : TaskStands tables q said_nothing task.Set = subst (TaskStands tables q said_nothing) set (well.0 said_nothing refl) in known.tag
 task_asks tables devices q (Ends e) well set = absurd set
 
-noted_fresh : (now : ℕ) (v d : List ℕ) (w : Work) (digest : Option (List ℕ)) (mid sets : List RememberedSet) (n : Noted) → n ≢ noted.Before → IsNotedFor now digest w mid sets n → AsksSet w → digest ≡ Some (sha256 v) → IsFresh now (sha256 v) mid sets
-noted_fresh now v d w digest mid sets noted.NoSet isnt is set own = absurd (is.0 set)
-noted_fresh now v d w digest mid sets noted.Now isnt is set own =
+noted_fresh : (now : ℕ) (v d : List ℕ) (w : Work) (digest : Option (List ℕ)) (mid sets : List RememberedSet) (n : Noted) → n ≢ noted.Before → n ≢ noted.NoRoom → IsNotedFor now digest w mid sets n → AsksSet w → digest ≡ Some (sha256 v) → IsFresh now (sha256 v) mid sets
+noted_fresh now v d w digest mid sets noted.NoSet isnt fits is set own = absurd (is.0 set)
+noted_fresh now v d w digest mid sets noted.Now isnt fits is set own =
     fresh_new now (sha256 v) mid sets (subst (λ (x : List ℕ). IsNoted now x mid sets New) (one_some is.0 (sha256 v) (sym is.1 ∙ own)) is.2)
-noted_fresh now v d w digest mid sets noted.Before isnt is set own = absurd (isnt refl)
+noted_fresh now v d w digest mid sets noted.Before isnt fits is set own = absurd (isnt refl)
+noted_fresh now v d w digest mid sets noted.NoRoom isnt fits is set own = absurd (fits refl)
 
 pub keeps_noted_for : (now : ℕ) (w : Work) (digest : Option (List ℕ)) (mid sets : List RememberedSet) (n : Noted) → IsNotedFor now digest w mid sets n → KeepsKnown now mid sets
 keeps_noted_for now w digest mid sets noted.NoSet is = keeps_kept now mid sets (inl is.1)
 keeps_noted_for now w digest mid sets noted.Now is = keeps_noted now is.0 mid sets New is.2
-keeps_noted_for now w digest mid sets noted.Before is = keeps_kept now mid sets is
+keeps_noted_for now w digest mid sets noted.Before is = keeps_kept now mid sets (inr is.2.1.1)
+keeps_noted_for now w digest mid sets noted.NoRoom is = keeps_kept now mid sets (inr is.2.2)
 
 module _ (tables : Tables) (devices : List Device) (before : List Happening) (next : ℕ) (gs new : Gs) (m : WaitingMessage) (q : Question) (w : Work) (since now : ℕ) (v : List ℕ) (old mid sets : List RememberedSet) (n : Noted) (asks : question_in m ≡ Some q)
-    (well : BeginsWell tables devices q w) (digest : IsDigestOf m v) (later : since ≤ now) (isnt : n ≢ noted.Before) (first : KeepsSets now old mid) (noted_is : IsNotedFor now m.digest w mid sets n) (new_is : new ≡ gs ++ begun next m w ∷ [])
+    (well : BeginsWell tables devices q w) (digest : IsDigestOf m v) (later : since ≤ now) (isnt : n ≢ noted.Before) (fits : n ≢ noted.NoRoom) (first : KeepsSets now old mid) (noted_is : IsNotedFor now m.digest w mid sets n) (new_is : new ≡ gs ++ begun next m w ∷ [])
     (stands : GroupsStand tables devices before next gs) (known : SetsStand since before gs old) where
   begun_was : (k : ℕ) → WasAsked (accepted next now v m ∷ before) k → WasAsked before k
   begun_was k = was_before (accepted next now v m) before k (λ d id what x same. let wrong : accepted next now v m ≡ asked k d id what x = same in cc)
@@ -179,7 +181,7 @@ module _ (tables : Tables) (devices : List Device) (before : List Happening) (ne
     | inl both ↦ let was = begun_was next both.0 in absurd (never_next (asked next was.device was.id was.request was.datagram) was.there refl)
     | inr (g, there, number, set) ↦
         let own = begun_set g there number set in
-        let fresh = noted_fresh now v [] w m.digest mid sets n isnt noted_is own (digest q asks (task_asks tables devices q w well own)) in record {
+        let fresh = noted_fresh now v [] w m.digest mid sets n isnt fits noted_is own (digest q asks (task_asks tables devices q w well own)) in record {
           unknown = subst (IsUnknown (sha256 v)) (lasting_same now old mid first) fresh.unknown;
           kept = fresh.kept;
         }

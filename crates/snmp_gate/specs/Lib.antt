@@ -33,3 +33,4 @@ pub mod Runs
 pub mod Due
 pub mod Bounds
 pub mod Limits
+pub mod Untaken

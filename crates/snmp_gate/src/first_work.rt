@@ -8,6 +8,7 @@ ghost use Rattle.snmp_gate.specs.Beginning.{BeginsWell, IsSet, MaySetAll};
 ghost use Rattle.snmp_gate.specs.Bounds.{IsNew};
 ghost use Rattle.snmp_gate.specs.SetBegins.{SetStandsSo};
 ghost use Rattle.snmp_gate.specs.Sets.{KeepsSets};
+ghost use Rattle.snmp_gate.specs.Untaken.{CameBefore};
 ghost use Rattle.snmp_gate.specs.Waiting.{SameButSets};
 ghost use Rattle.snmp_gate.specs.Work.{EndingStands, OnwardStands};
 ghost use Rattle.snmp_gate.specs.Said.{IsUnasked, Said};
@@ -98,6 +99,7 @@ impl Gate {
             → question_in message.now ≡ Some q
             → BeginsWell self.old.agent.tables self.old.devices.list.items q work)) }
         ensures fresh { IfOk result (λ begins. IfSome begins (IsNew now)) }
+        ensures unknown { IfOk result (λ begins. begins ≡ None → CameBefore now message.now.digest self.old) }
         ensures same { SameButSets self.old self.new }
         ensures sets { KeepsSets now self.old.sets.sets.items self.new.sets.sets.items }
     {
@@ -118,6 +120,7 @@ impl Gate {
             → question_in message.now ≡ Some q
             → BeginsWell self.old.agent.tables self.old.devices.list.items q work)) }
         ensures fresh { IfOk result (λ begins. IfSome begins (IsNew now)) }
+        ensures unknown { IfOk result (λ begins. begins ≡ None → CameBefore now message.now.digest self.old) }
         ensures same { SameButSets self.old self.new }
         ensures sets { KeepsSets now self.old.sets.sets.items self.new.sets.sets.items }
     {
@@ -164,21 +167,24 @@ impl Gate {
         requires { device < length self.old.devices.list.items }
         ensures begins { IfOk result (λ begins. (q : Question) → question_in message.now ≡ Some q → IsSet q
             → SetStandsSo self.old.agent.tables q begins) }
+        ensures unknown { IfOk result (λ begins. begins ≡ SetBegins.Unknown
+            → CameBefore now message.now.digest self.old) }
         ensures same { SameButSets self.old self.new }
         ensures sets { KeepsSets now self.old.sets.sets.items self.new.sets.sets.items }
     {
         let Some(digest) = message.digest else {
-            return Ok(SetBegins::Unknown);
+            // (each Set has one)
+            let onward = self.begin_new_set(now, device, message, true)?;
+            return Ok(SetBegins::Onward(onward));
         };
         let note = self.sets.look(now, &digest);
-        match note {
-            SetNote::Repeated(Some(says)) => Ok(SetBegins::Onward(Onward::Ends(RequestEnd::Own(
-                says,
-            )))),
-            SetNote::Repeated(None) => Ok(SetBegins::Unknown),
-            SetNote::New => self.begin_new_set(now, device, message, false),
-            SetNote::NoRoom => self.begin_new_set(now, device, message, true),
-        }
+        let onward = match note {
+            SetNote::Repeated(Some(says)) => Onward::Ends(RequestEnd::Own(says)),
+            SetNote::Repeated(None) => return Ok(SetBegins::Unknown),
+            SetNote::New => self.begin_new_set(now, device, message, false)?,
+            SetNote::NoRoom => self.begin_new_set(now, device, message, true)?,
+        };
+        Ok(SetBegins::Onward(onward))
     }
 
     /// Returns how a Set begins that didn't come before.
@@ -188,20 +194,20 @@ impl Gate {
         device: usize,
         message: &WaitingMessage,
         is_full: bool,
-    ) -> Result<SetBegins, AllocError>
+    ) -> Result<Onward, AllocError>
         requires { device < length self.old.devices.list.items }
-        ensures begins { IfOk result (λ begins. (q : Question) → question_in message.now ≡ Some q → IsSet q
-            → SetStandsSo self.old.agent.tables q begins) }
+        ensures begins { IfOk result (λ onward. (q : Question) → question_in message.now ≡ Some q → IsSet q
+            → (told : Said) → IsUnasked told → OnwardStands self.old.agent.tables q told onward) }
         ensures same { SameButSets self.old self.new }
         ensures sets { self.new.sets ≡ self.old.sets }
     {
         if let Some(ending) = self.refused_set(now, device, message)? {
-            return Ok(SetBegins::Onward(Onward::Ends(ending)));
+            return Ok(Onward::Ends(ending));
         }
         if is_full {
-            return Ok(SetBegins::Onward(Onward::Ends(own(RESOURCE_UNAVAILABLE, 0))));
+            return Ok(Onward::Ends(own(RESOURCE_UNAVAILABLE, 0)));
         }
-        Ok(SetBegins::Onward(Onward::Asks(NamedTask { task: Task::Set })))
+        Ok(Onward::Asks(NamedTask { task: Task::Set }))
     }
 
     /// Returns the end of a Set that isn't asked of its device, whatever is remembered.

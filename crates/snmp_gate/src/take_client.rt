@@ -3,6 +3,7 @@
 ghost use Rattle.std.specs.Prelude.{◌≡◌, ◌↔◌, ◌<◌, ◌≤◌, ◌/◌, ℕ, List, Some, length, IfOk, IfSome, IsTrue};
 ghost use Rattle.std.specs.Prelude.{MatchOption, OnErr};
 ghost use Rattle.std.specs.List.{HoldsAt};
+ghost use Rattle.sha2.specs.Sha256.{sha256};
 ghost use Rattle.snmp_incoming.specs.Answers.{given_of};
 ghost use Rattle.snmp_gate.specs.Question.{Question};
 ghost use Rattle.snmp_gate.specs.Messages.{question_in};
@@ -12,6 +13,7 @@ ghost use Rattle.snmp_gate.specs.Devices.{IsDeviceOf};
 ghost use Rattle.snmp_gate.specs.History.{Happening};
 ghost use Rattle.snmp_gate.specs.Noting.{AsksSet, IsNotedAgain, IsNotedFor, IsUnnoted};
 ghost use Rattle.snmp_gate.specs.Sets.{KeepsSets};
+ghost use Rattle.snmp_gate.specs.Untaken.{HasCause, IsCauseOf};
 ghost use Rattle.snmp_gate.specs.Waiting.{ClientHappens, GateStands, IsAsBefore, IsRefusedBy, SameButSets, Stays};
 ghost use Rattle.snmp_gate.specs.Work.{OnwardStands};
 ghost use Rattle.snmp_gate.specs.Said.{IsUnasked, Said};
@@ -84,8 +86,10 @@ enum Noted {
     NoSet,
     /// It is remembered now, and its device may be asked.
     Now,
-    /// It was remembered before, or can't be: its device may not be asked.
+    /// It was remembered before: its device may not be asked.
     Before,
+    /// It can't be remembered: its device may not be asked.
+    NoRoom,
 }
 
 /// Returns what was remembered of a message that asks again what waits, and is of this digest if it is a Set.
@@ -115,6 +119,7 @@ impl Gate {
             → ClientHappens self.old now before client.now datagram.now taken self.new) }
         ensures refused { IfOk result (IsRefusedBy self.old (now / 1000) datagram.now self.new) }
         ensures untaken { IfOk result (λ taken. IsUntaken taken → IsAsBefore now self.old self.new) }
+        ensures cause { IfOk result (HasCause self.old now datagram.now) }
         ensures stays { Stays self.old self.new }
         ensures err { OnErr result (IsAsBefore now self.old self.new) }
     {
@@ -141,6 +146,7 @@ impl Gate {
         ensures is { IfOk result (λ m. (m.client.items ≡ client.now) × (m.kept ≡ given_of taken.entry)) }
         ensures asks { IfOk result (λ m. (q : Question) × (question_in m ≡ Some q)) }
         ensures digest { IfOk result (λ m. IsDigestOf m datagram.now) }
+        ensures own { IfOk result (λ m. (d : List ℕ) → m.digest ≡ Some d → d ≡ sha256 datagram.now) }
     {
         let pdu = pdu_of(&taken);
         let digest = if pdu.tag == PduType::SetRequest.tag() {
@@ -170,6 +176,7 @@ impl Gate {
             → TakenIn before now datagram message taken self.new) }
         ensures accepts { IfOk result IsNoRefusal }
         ensures untaken { IfOk result (λ taken. IsUntaken taken → IsAsBefore now self.old self.new) }
+        ensures cause { IfOk result (IsCauseOf self.old now message.digest) }
         ensures stays { Stays self.old self.new }
         ensures err { OnErr result (IsAsBefore now self.old self.new) }
     {
@@ -212,7 +219,7 @@ impl Gate {
     {
         match noted {
             Noted::Now => self.sets.forget_last(),
-            Noted::NoSet | Noted::Before => {}
+            Noted::NoSet | Noted::Before | Noted::NoRoom => {}
         }
     }
 
@@ -223,12 +230,14 @@ impl Gate {
         message: WaitingMessage,
         unhandled: Option<Unhandled>,
     ) -> Result<ClientTaken, AllocError>
-        requires { (q : Question) × (question_in message ≡ Some q) }
+        requires asks { (q : Question) × (question_in message ≡ Some q) }
+        requires digest { (datagram : List ℕ) × IsDigestOf message datagram }
         ensures takes { IfOk result (λ taken. (since : ℕ) (before : List Happening) (datagram : List ℕ) → since ≤ now
             → IsDigestOf message datagram → GateStands since before self.old
             → TakenIn before now datagram message taken self.new) }
         ensures accepts { IfOk result IsNoRefusal }
         ensures untaken { IfOk result (λ taken. IsUntaken taken → IsAsBefore now self.old self.new) }
+        ensures cause { IfOk result (IsCauseOf self.old now message.digest) }
         ensures stays { Stays self.old self.new }
         ensures err { OnErr result (IsAsBefore now self.old self.new) }
     {
@@ -241,6 +250,9 @@ impl Gate {
         let noted = self.note_asked(now, &work, message.digest)?;
         if let Noted::Before = noted {
             return Ok(ClientTaken::SetOfBefore);
+        }
+        if let Noted::NoRoom = noted {
+            return Ok(ClientTaken::NoRoom);
         }
         match self.requests.begin(self.alloc, message, work) {
             Ok(number) => Ok(ClientTaken::Begins(number)),
@@ -258,6 +270,7 @@ impl Gate {
         work: &Work,
         digest: Option<[u8; 32]>,
     ) -> Result<Noted, AllocError>
+        requires { AsksSet work.now → (d : List ℕ) × (digest ≡ Some d) }
         ensures same { SameButSets self.old self.new }
         ensures noted { IfOk result
             (IsNotedFor now digest work.now self.old.sets.sets.items self.new.sets.sets.items) }
@@ -267,11 +280,12 @@ impl Gate {
             return Ok(Noted::NoSet);
         }
         let Some(digest) = digest else {
-            return Ok(Noted::Before);
+            return Ok(Noted::NoSet);
         };
         match self.sets.note(now, &digest)? {
             SetNote::New => Ok(Noted::Now),
-            SetNote::Repeated(_) | SetNote::NoRoom => Ok(Noted::Before),
+            SetNote::Repeated(_) => Ok(Noted::Before),
+            SetNote::NoRoom => Ok(Noted::NoRoom),
         }
     }
 }

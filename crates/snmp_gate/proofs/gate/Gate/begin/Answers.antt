@@ -1,6 +1,7 @@
 use Rattle.std.proofs.Common.{◌∙◌, refl, ap, arith, inl, inr, subst, sym}
 use Rattle.std.proofs.lemmas.Bool.{false≢true}
 use Rattle.std.proofs.lemmas.Bool.Decides.{leb_tells}
+use Rattle.sha2.specs.Sha256.{sha256}
 use Rattle.std.specs.Prelude.{ℕ, ◌∷◌, ◌≡◌, ◌≢◌, ◌<◌, ◌≤◌, ◌+◌, ◌-◌, ◌^◌, length, min, suc}
 use Rattle.snmp_agent.specs.Agent.{AgentState}
 use Rattle.snmp_gate.specs.Beginning.{BeginsWell}
@@ -22,10 +23,13 @@ use Rattle.snmp_gate.proofs.AsksKept.{asks_same}
 use Rattle.snmp_gate.specs.declared.gate.Gate.{Gate}
 use Rattle.snmp_gate.proofs.Bounded.{agent_same, bounded_begun, new_fresh, stays_forgotten, stays_noted, stays_on, stays_requests, stays_same, stays_twice}
 use Rattle.snmp_gate.proofs.Keeping.{as_before, keeps_again, same_before, stands_later, stands_noted, stays_as_before, unnoted}
-use Rattle.snmp_gate.proofs.SetsComing.{begun_sets, keeps_noted_for}
+use Rattle.snmp_gate.proofs.SetsComing.{begun_sets, keeps_noted_for, task_asks}
 use Rattle.snmp_gate.proofs.SetsKept.{keeps_kept}
 use Rattle.snmp_gate.proofs.Joining.{begins_in_turn, begun_all}
+use Rattle.snmp_gate.specs.Untaken.{by_numbers, by_requests}
+use Rattle.snmp_gate.proofs.Untaken.{noted_before, noted_full}
 use Rattle.snmp_gate.proofs.gate.Gate.begin.Goals as goal
+use Rattle.snmp_gate.proofs.gate.Gate.begin.Goals.{then-is_full-via-then-is_full, then-is_full-via-else-is_full+then-next_number}
 
 next_is : (n : ℕ) → n ≤ 2 ^ 64 - 1 → n ≢ 2 ^ 64 - 1 → min (n + 1) (2 ^ 64 - 1) ≡ suc n
 next_is n fits isnt = omega (arith, fits, isnt)
@@ -39,7 +43,7 @@ returns-in-Ok-clause-takes c since before datagram later digest stands =
     let n = c.note_asked.new.self in
     let w = c.in-Some.work in
     let m = c.args.message in
-    let q = c.requires.0 in
+    let q = c.requires.asks.0 in
     let first = c.first_work.ensures.same in
     let note = c.note_asked.ensures.same in
     let fits : c.next_number.result ≤ 2 ^ 64 - 1 = omega (arith, c.next_number.type_inv) in
@@ -53,15 +57,15 @@ returns-in-Ok-clause-takes c since before datagram later digest stands =
     (ap (λ (x : AgentState). x.tables) agent)
     (ap (λ (x : Devices). x.list.items) devices)
     same_next groups_same stands.requests in
-    let well = (rw c.in-Some.is at c.in_ok-work.ensures.begins) q c.requires.1 in
+    let well = (rw c.in-Some.is at c.in_ok-work.ensures.begins) q c.requires.asks.1 in
     let well_now = subst (λ (x : AgentState). BeginsWell x.tables n.devices.list.items q w) (sym agent)
     (subst (λ (x : Devices). BeginsWell g.agent.tables x.list.items q w) (sym devices) well) in
     let next_one = c.in-Ok.ensures.next ∙ next_is n.requests.next (subst (λ (x : ℕ). x ≤ 2 ^ 64 - 1) (c.next_number.ensures ∙ sym same_next) fits) (λ is. c.if-next_number.false (c.next_number.ensures ∙ sym same_next ∙ is)) in
     let all = begun_all n.agent.tables n.devices.list.items before n.requests.next c.begin.new.self.next (groups_of n.requests.list.items) new m q w c.args.now datagram
-    c.requires.1 well_now (rw c.in-Some.is at c.in_ok-work.ensures.fresh) c.in-Ok.ensures.ok next_one requests in
+    c.requires.asks.1 well_now (rw c.in-Some.is at c.in_ok-work.ensures.fresh) c.in-Ok.ensures.ok next_one requests in
     let known = subst (λ (x : WaitingRequests WaitingMessage Work). SetsStand since before (groups_of x.list.items) g.sets.sets.items) (sym rs) stands.sets in
     let sets = begun_sets n.agent.tables n.devices.list.items before n.requests.next (groups_of n.requests.list.items) new m q w since c.args.now datagram g.sets.sets.items c.first_work.new.self.sets.sets.items n.sets.sets.items c.in_ok-noted.noted
-    c.requires.1 well_now digest later c.in_default-noted.not-Before c.first_work.ensures.sets c.in_ok-noted.ensures.noted c.in-Ok.ensures.ok requests known in
+    c.requires.asks.1 well_now digest later c.in_default-noted.not-Before c.in_default-noted-2.not-NoRoom c.first_work.ensures.sets c.in_ok-noted.ensures.noted c.in-Ok.ensures.ok requests known in
     let asks = asks_same (accepted n.requests.next c.args.now datagram m) before (asks_in n.asks.items) (λ k. refl) (subst (λ (v : Vec DeviceAsks). AsksStand before (asks_in v.items)) (sym (note.asks ∙ first.asks)) stands.asks) in
     subst (λ (k : ℕ). IsInTurn before (accepted k c.args.now datagram m)
     × GateStands c.args.now (accepted k c.args.now datagram m ∷ before) (record { alloc = n.alloc; agent = n.agent; devices = n.devices; asks = n.asks; limits = n.limits; requests = c.begin.new.self; sets = n.sets })) (sym c.in-Ok.ensures.number)
@@ -130,7 +134,19 @@ returns-in-Before-clause-untaken c untaken =
     as_before c.args.now g n (same.agent ∙ first.agent) (same.devices ∙ first.devices) (same.limits ∙ first.limits) (same.asks ∙ first.asks)
     (ap (λ (x : WaitingRequests WaitingMessage Work). groups_of x.list.items) requests)
     (ap (λ (x : WaitingRequests WaitingMessage Work). x.next) requests)
-    (keeps_again c.args.now g.sets.sets.items c.first_work.new.self.sets.sets.items n.sets.sets.items c.first_work.ensures.sets (rw c.in-Before.is at c.in_ok-noted.ensures.noted))
+    (keeps_again c.args.now g.sets.sets.items c.first_work.new.self.sets.sets.items n.sets.sets.items c.first_work.ensures.sets (inr (rw c.in-Before.is at c.in_ok-noted.ensures.noted).2.1.1))
+
+pub returns-in-NoRoom-clause-untaken : goal.returns-in-NoRoom-clause-untaken
+returns-in-NoRoom-clause-untaken c untaken =
+    let g = c.args.self.now in
+    let n = c.note_asked.new.self in
+    let first = c.first_work.ensures.same in
+    let same = c.note_asked.ensures.same in
+    let requests = same.requests ∙ first.requests in
+    as_before c.args.now g n (same.agent ∙ first.agent) (same.devices ∙ first.devices) (same.limits ∙ first.limits) (same.asks ∙ first.asks)
+    (ap (λ (x : WaitingRequests WaitingMessage Work). groups_of x.list.items) requests)
+    (ap (λ (x : WaitingRequests WaitingMessage Work). x.next) requests)
+    (keeps_again c.args.now g.sets.sets.items c.first_work.new.self.sets.sets.items n.sets.sets.items c.first_work.ensures.sets (inr (rw c.in-NoRoom.is at c.in_ok-noted.ensures.noted).2.2))
 
 pub returns-in-Ok-clause-untaken : goal.returns-in-Ok-clause-untaken
 returns-in-Ok-clause-untaken c untaken = absurd untaken
@@ -146,6 +162,42 @@ returns-in_default-clause-stays c = stays_noted c.args.self.now c.first_work.new
 
 pub returns-in-Before-clause-stays : goal.returns-in-Before-clause-stays
 returns-in-Before-clause-stays c = stays_twice c.args.self.now c.first_work.new.self c.note_asked.new.self c.first_work.ensures.same c.note_asked.ensures.same
+
+pub returns-in-NoRoom-clause-stays : goal.returns-in-NoRoom-clause-stays
+returns-in-NoRoom-clause-stays c = stays_twice c.args.self.now c.first_work.new.self c.note_asked.new.self c.first_work.ensures.same c.note_asked.ensures.same
+
+pub returns-in-NoRoom-clause-takes : goal.returns-in-NoRoom-clause-takes
+returns-in-NoRoom-clause-takes c since before datagram later digest stands =
+    let g = c.args.self.now in
+    let mid = c.first_work.new.self in
+    let n = c.note_asked.new.self in
+    let first = stands_noted c.args.now g mid c.first_work.ensures.same (keeps_kept c.args.now g.sets.sets.items mid.sets.sets.items c.first_work.ensures.sets) since before later stands in
+    stands_noted c.args.now mid n c.note_asked.ensures.same (keeps_noted_for c.args.now c.in-Some.work c.args.message.digest mid.sets.sets.items n.sets.sets.items c.in_ok-noted.noted c.in_ok-noted.ensures.noted) c.args.now before (omega arith) first
+
+pub note_asked-requires : goal.note_asked-requires
+note_asked-requires c = λ set.
+    let g = c.args.self.now in
+    let well = (rw c.in-Some.is at c.in_ok-work.ensures.begins) c.requires.asks.0 c.requires.asks.1 in
+    (sha256 c.requires.digest.0, c.requires.digest.1 c.requires.asks.0 c.requires.asks.1 (task_asks g.agent.tables g.devices.list.items c.requires.asks.0 c.in-Some.work well set))
+
+pub returns-then-is_full-clause-cause : goal.returns-then-is_full-clause-cause
+returns-then-is_full-clause-cause c = elim c.then-is_full.branch [
+  | then-is_full-via-then-is_full w ↦ by_requests (c.is_full.ensures.0 w.if-is_full.true)
+  | then-is_full-via-else-is_full+then-next_number w ↦ by_numbers (sym w.next_number.ensures ∙ w.if-next_number.true)
+]
+
+pub returns-in_default-clause-cause : goal.returns-in_default-clause-cause
+returns-in_default-clause-cause c = c.in_ok-work.ensures.unknown c.in_default.is
+
+pub returns-in-Before-clause-cause : goal.returns-in-Before-clause-cause
+returns-in-Before-clause-cause c =
+    let g = c.args.self.now in
+    noted_before c.args.now c.args.message.digest c.in-Some.work g c.first_work.new.self.sets.sets.items c.note_asked.new.self.sets.sets.items c.first_work.ensures.sets (rw c.in-Before.is at c.in_ok-noted.ensures.noted)
+
+pub returns-in-NoRoom-clause-cause : goal.returns-in-NoRoom-clause-cause
+returns-in-NoRoom-clause-cause c =
+    let g = c.args.self.now in
+    noted_full c.args.now c.args.message.digest c.in-Some.work g c.first_work.new.self.sets.sets.items c.note_asked.new.self.sets.sets.items c.first_work.ensures.sets (rw c.in-NoRoom.is at c.in_ok-noted.ensures.noted)
 
 pub returns-in_err-noted-clause-stays : goal.returns-in_err-noted-clause-stays
 returns-in_err-noted-clause-stays c = stays_twice c.args.self.now c.first_work.new.self c.note_asked.new.self c.first_work.ensures.same c.note_asked.ensures.same

@@ -22,6 +22,7 @@ use Rattle.snmp_gate.proofs.Keeping.{forgotten, keeps_no_room, keeps_repeated, s
 use Rattle.snmp_gate.proofs.SetsComing.{joined_sets}
 use Rattle.snmp_gate.proofs.SetsKept.{keeps_noted_again}
 use Rattle.snmp_gate.proofs.Joining.{joined_all, joins_in_turn, request_asks}
+use Rattle.snmp_gate.proofs.Untaken.{again_before, again_full, full_of_messages}
 use Rattle.snmp_gate.proofs.gate.Gate.join.Goals as goal
 
 pub returns-in-Ok-Joined-clause-takes : goal.returns-in-Ok-Joined-clause-takes
@@ -99,6 +100,19 @@ returns-in-NoRoom-clause-untaken c untaken =
     let g = c.args.self.now in
     same_before c.args.now g c.note_again.new.self c.note_again.ensures.same
     (keeps_no_room c.args.now c.args.message.digest g.sets.sets.items c.note_again.new.self.sets.sets.items (rw c.in-NoRoom.is at c.in_ok-note_again.ensures.noted))
+
+pub returns-in-Repeated-clause-cause : goal.returns-in-Repeated-clause-cause
+returns-in-Repeated-clause-cause c =
+    again_before c.args.now c.args.message.digest c.args.self.now c.note_again.new.self.sets.sets.items _ (rw c.in-Repeated.is at c.in_ok-note_again.ensures.noted)
+
+pub returns-in-NoRoom-clause-cause : goal.returns-in-NoRoom-clause-cause
+returns-in-NoRoom-clause-cause c =
+    again_full c.args.now c.args.message.digest c.args.self.now c.note_again.new.self.sets.sets.items (rw c.in-NoRoom.is at c.in_ok-note_again.ensures.noted)
+
+pub returns-in-Ok-NoRoom-clause-cause : goal.returns-in-Ok-NoRoom-clause-cause
+returns-in-Ok-NoRoom-clause-cause c =
+    let joins = rw c.in-Ok-NoRoom.field-0-is at c.in-Ok-NoRoom.ensures.joined in
+    full_of_messages c.args.now c.args.self.now c.note_again.new.self.requests c.args.place joins.0 c.note_again.ensures.same.requests joins.1 joins.2
 
 pub returns-in-Err-clause-err : goal.returns-in-Err-clause-err
 returns-in-Err-clause-err c =

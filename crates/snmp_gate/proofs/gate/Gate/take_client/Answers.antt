@@ -1,5 +1,6 @@
 use Rattle.std.specs.Prelude.{◌≡◌, ◌/◌, ℕ, Bool, List, Ok, Option, Some, None, Result}
 use Rattle.std.proofs.Common.{ap, inl, refl, subst, sym}
+use Rattle.sha2.specs.Sha256.{sha256}
 use Rattle.snmp_message.specs.declared.refusal.Refusal.{Refusal}
 use Rattle.snmp_message.specs.Numbers.{MemoryIs, in_table}
 use Rattle.usm_core.specs.Table.{refusal_answer, refused}
@@ -13,6 +14,7 @@ use Rattle.snmp_gate.proofs.GroupSteps.{on_err}
 use Rattle.snmp_gate.proofs.Keeping.{as_before, as_before_same, if_err, stands_kept}
 use Rattle.snmp_gate.proofs.Sending.{on_ok}
 use Rattle.snmp_gate.proofs.SetsKept.{keeps_same}
+use Rattle.snmp_gate.proofs.Untaken.{cause_of}
 use Rattle.snmp_gate.proofs.gate.Gate.take_client.Goals as goal
 
 same_tables : (old new : AgentState) (now : ℕ) (w : List ℕ) (a : Option (Result Given Refusal)) → AgentTakes old now w a new → new.tables ≡ old.tables
@@ -22,8 +24,11 @@ same_tables old new now w (Some answer) is = ap (λ (x : AgentState). x.tables) 
 same_agent : (old new : AgentState) (now : ℕ) (w : List ℕ) (why : Refusal) → in_table why ≡ None → AgentTakes old now w (refusal_answer why) new → new ≡ old
 same_agent old new now w why memory is = subst (λ (r : Option Refusal). AgentTakes old now w (refused r) new) memory is
 
-pub begin-requires : goal.begin-requires
-begin-requires c = c.in_ok-message.ensures.asks
+pub begin-requires-clause-asks : goal.begin-requires-clause-asks
+begin-requires-clause-asks c = c.in_ok-message.ensures.asks
+
+pub begin-requires-clause-digest : goal.begin-requires-clause-digest
+begin-requires-clause-digest c = (c.args.datagram.now, c.in_ok-message.ensures.digest)
 
 pub returns-in-Some-clause-happens : goal.returns-in-Some-clause-happens
 returns-in-Some-clause-happens c =
@@ -93,6 +98,18 @@ returns-in-None-clause-untaken c =
     let g = c.args.self.now in
     let mid : Gate = record g { agent = c.take.new.self } in
     on_ok c.begin.result _ _ (λ taken is untaken. as_before_same c.args.now g mid c.begin.new.self c.in-Ok.ensures.takes.1 refl refl refl refl refl (is untaken)) c.begin.ensures.untaken
+
+pub returns-in-Some-clause-cause : goal.returns-in-Some-clause-cause
+returns-in-Some-clause-cause c =
+    let g = c.args.self.now in
+    let mid : Gate = record g { agent = c.take.new.self } in
+    on_ok c.join.result _ _ (cause_of c.args.now g mid c.in_ok-message.message.digest (sha256 c.args.datagram.now) refl refl c.in_ok-message.ensures.own) c.join.ensures.cause
+
+pub returns-in-None-clause-cause : goal.returns-in-None-clause-cause
+returns-in-None-clause-cause c =
+    let g = c.args.self.now in
+    let mid : Gate = record g { agent = c.take.new.self } in
+    on_ok c.begin.result _ _ (cause_of c.args.now g mid c.in_ok-message.message.digest (sha256 c.args.datagram.now) refl refl c.in_ok-message.ensures.own) c.begin.ensures.cause
 
 pub returns-in-Err-2-clause-untaken : goal.returns-in-Err-2-clause-untaken
 returns-in-Err-2-clause-untaken c untaken = absurd untaken
