@@ -6,3 +6,4 @@ mod Twins
 mod Seen
 mod Served
 mod Notified
+mod Impossible

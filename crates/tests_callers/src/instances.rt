@@ -1,16 +1,32 @@
 //! Histories that the laws must refuse, so that a definition which gets too wide is seen here. Each function does
 //! nothing: its contract is that no such history is lawful.
 
-ghost use Rattle.std.specs.Prelude.{ℕ, List, [], ◌∷◌};
+ghost use Rattle.std.specs.Prelude.{◌≡◌, ◌≤◌, ℕ, List, [], ◌∷◌, Some};
+ghost use Rattle.snmp_message.specs.Scoped.{Contexts};
+ghost use Rattle.snmp_incoming.specs.Outcome.{Given};
+ghost use Rattle.snmp_manager.specs.Views.{Held};
+ghost use Rattle.snmp_manager.specs.declared.pending.Pending.{Pending};
+ghost use Rattle.snmp_requests.specs.DeviceRequestRuns.{HearStep};
+ghost use Rattle.snmp_requests.specs.Outstanding.{Outstanding, none_outstanding};
+ghost use Rattle.snmp_requests.specs.RequestRuns.{IsRequestRun, accepts};
+ghost use Rattle.snmp_requests.specs.declared.answered.AnsweredRequest.{AnsweredRequest};
+ghost use Rattle.snmp_requests.specs.declared.device_request.SentMessage.{SentMessage};
 ghost use Rattle.snmp_agent.specs.Agent.{AgentState};
 ghost use Rattle.snmp_msg.specs.Pdu.{PduParts};
+ghost use Rattle.snmp_msg.specs.PduTypes.{pdu_tag};
+ghost use Rattle.snmp_msg.specs.declared.pdu_type.PduType.TheVariants.{SetRequest};
 ghost use Rattle.gateway_laws.specs.Requests.{RequestPdu};
-ghost use Rattle.snmp_gate.specs.History.{answered, asked, sent, unanswered};
+ghost use Rattle.snmp_gate.specs.History.{accepted, answered, asked, sent, unanswered};
 ghost use Rattle.snmp_gate.specs.Lawful.{AreLawful};
+ghost use Rattle.snmp_gate.specs.Limits.{AlwaysKeepsTo};
+ghost use Rattle.snmp_gate.specs.Messages.{question_in};
+ghost use Rattle.snmp_gate.specs.Question.{Question};
 ghost use Rattle.snmp_gate.specs.Replies.{Answering, ClientAnswer};
 ghost use Rattle.snmp_gate.specs.declared.devices.Device.{Device};
+ghost use Rattle.snmp_gate.specs.declared.limits.GateLimits.{GateLimits};
 ghost use Rattle.snmp_gate.specs.declared.waiting_message.WaitingMessage.{WaitingMessage};
 ghost use Rattle.snmp_forward.specs.History as notifications;
+ghost use Rattle.snmp_forward.specs.InformHistory as informs;
 ghost use Rattle.snmp_forward.specs.declared.inform.Inform.{Inform};
 ghost use Rattle.snmp_forward.specs.declared.receivers.Receiver.{Receiver};
 ghost use Rattle.snmp_forward.specs.declared.sealing.Sealing.{Sealing};
@@ -38,4 +54,50 @@ pub fn no_notification_is_made_up()
     ensures as_inform { (agent : AgentState) (devices : List Device) (receivers : List Receiver) (number : ℕ)
         (inform : Inform)
         → ¬ notifications.AreLawful agent devices receivers (notifications.as_inform number inform ∷ []) }
+{}
+
+/// A gateway does nothing twice: one message isn't answered twice (`sent`), and no device is asked for one Set twice
+/// (`asked`), or for a request more often than it may be (`tried`).
+pub fn nothing_is_done_twice()
+    ensures sent { (agent : AgentState) (devices : List Device) (number now : ℕ) (datagram : List ℕ)
+        (message : WaitingMessage) (by again : Answering) (answer other : ClientAnswer)
+        → ¬ AreLawful agent devices (sent number message again other ∷ sent number message by answer
+        ∷ accepted number now datagram message ∷ []) }
+    ensures asked { (agent : AgentState) (devices : List Device) (number now device id other : ℕ) (set : Question)
+        (message : WaitingMessage) (request again : RequestPdu) (datagram first second : List ℕ)
+        → question_in message ≡ Some set → set.tag ≡ pdu_tag SetRequest
+        → ¬ AreLawful agent devices (asked number device other again second ∷ asked number device id request first
+        ∷ accepted number now datagram message ∷ []) }
+    ensures tried { (limits : GateLimits) (devices : List Device) (number device id other : ℕ)
+        (request again : RequestPdu) (first second : List ℕ) → limits.retries.tries ≤ 1
+        → ¬ AlwaysKeepsTo limits devices (asked number device other again second
+        ∷ asked number device id request first ∷ []) }
+{}
+
+/// A forwarder sends no notification to one receiver twice.
+pub fn no_receiver_is_notified_twice()
+    ensures { (agent : AgentState) (devices : List Device) (receivers : List Receiver) (number device receiver : ℕ)
+        (by again : Sealing) (datagram first second : List ℕ)
+        → ¬ notifications.AreLawful agent devices receivers (notifications.sent number receiver again second
+        ∷ notifications.sent number receiver by first
+        ∷ notifications.taken number device datagram (receiver ∷ []) ∷ []) }
+{}
+
+/// No message is sent for an Inform that never began (`asks`), and no answer to one is heard (`answers`). An Inform
+/// ends once (`ends`).
+pub fn no_inform_is_made_up()
+    ensures asks { (s : informs.InformSetting) (number receiver now : ℕ) (message : SentMessage) (held : Held)
+        (by : Sealing) (pending : Pending) (datagram : List ℕ)
+        → ¬ informs.AreInformsLawful s (informs.asks number receiver now message held by pending datagram ∷ []) }
+    ensures answers { (s : informs.InformSetting) (number : ℕ) (what : informs.Accepted) (heard : HearStep)
+        → ¬ informs.AreInformsLawful s (informs.answers number what heard ∷ []) }
+    ensures ends { (s : informs.InformSetting) (number receiver now later : ℕ) (why again : informs.InformEnd)
+        (inform : Inform) → ¬ informs.AreInformsLawful s (informs.ends number receiver later again
+        ∷ informs.ends number receiver now why ∷ informs.begins number inform ∷ []) }
+{}
+
+/// No message is an answer to a request of a manager that has asked nothing.
+pub fn no_answer_is_made_up()
+    ensures { (g : Given) (c : Contexts) (p : PduParts) (told : AnsweredRequest) (last : Outstanding)
+        → ¬ IsRequestRun none_outstanding (accepts g c p (Some told) ∷ []) last }
 {}

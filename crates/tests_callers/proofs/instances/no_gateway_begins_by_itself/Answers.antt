@@ -1,10 +1,11 @@
 use Rattle.std.proofs.Common.{rules, []}
 use Rattle.std.proofs.lemmas.List.Elements.{at_from_Contains}
 use Rattle.snmp_gate.specs.History.{accepted}
+use Rattle.tests_callers.proofs.Impossible.{nothing_is_sent}
 use Rattle.tests_callers.proofs.instances.no_gateway_begins_by_itself.Goals as goal
 
 pub returns-clause-sent : goal.returns-clause-sent
-returns-clause-sent c agent devices number message by answer lawful = cc (lawful.0.in_turn.1)
+returns-clause-sent c agent devices number message by answer = nothing_is_sent agent devices number message by answer
 
 pub returns-clause-unanswered : goal.returns-clause-unanswered
 returns-clause-unanswered c agent devices number message lawful = cc (lawful.0.in_turn.1)
