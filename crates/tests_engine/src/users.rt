@@ -119,6 +119,20 @@ pub fn sealed(
     )
 }
 
+/// The localised keys that are kept after a message to each of so many engines: one for each purpose, and 64 at most.
+#[test]
+fn sixty_four_localised_keys_are_kept(rt: HostRuntime) -> Result<(), Fail> {
+    let mut users = users_after_refusal(rt.alloc())?;
+    assert_eq!(rt; users.cached(), 0);
+    let mut engine = ENGINE;
+    for last in 1..=40 {
+        engine[11] = last;
+        sealed(&mut users, rt.alloc(), &engine, Pair { boots: 1, time: 1 })?;
+        assert_eq!(rt; users.cached(), (2 * last as usize).min(64));
+    }
+    Ok(())
+}
+
 /// The message, asked for again where a growth was refused.
 pub fn sealed_after_refusal(
     users: &mut Users,
