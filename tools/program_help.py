@@ -28,10 +28,10 @@ class Command:
 
 
 def help_of(program, *words):
-    """The parser's help stands on standard error."""
-    return subprocess.run(
-        [program, *words, "--help"], stdin=subprocess.DEVNULL, stderr=subprocess.PIPE, text=True, check=False
-    ).stderr
+    """The help of all, or of a command, which stands on standard error."""
+    asked = [*words, "--help"] if words else ["manual"]
+    ran = subprocess.run([program, *asked], stdin=subprocess.DEVNULL, capture_output=True, text=True, check=False)
+    return ran.stderr if words else ran.stdout
 
 
 def command_of(name, about, text):

@@ -1,4 +1,4 @@
-The help of each command. `manual` prints on standard output what `--help` prints on standard error.
+The help of each command. `manual` prints on standard output what the `--help` of a command prints on standard error.
 
   $ snmpsec manual show
   Print the fields of an SNMPv3 message, a field a line, and its canonical spelling

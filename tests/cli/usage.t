@@ -78,38 +78,41 @@ Either HEX or a file is given. The options of files need a file.
   ! snmpsec: c: there is no such file
   [2]
 
-Help is on standard error, with status 2. It names each command.
+`--help` and `-h` as the only word print the help on standard output, with status 0. It names each command.
 
   $ snmpsec --help
-  ! Looks into SNMPv3 messages, view-based access, logs of datagrams and saved clocks
-  !
-  ! Usage: snmpsec [OPTIONS] <COMMAND>
-  !
-  ! Commands:
-  !   show            Print the fields of an SNMPv3 message, a field a line, and its canonical spelling
-  !   open            Authenticate and decrypt an SNMPv3 message with the users' passwords, and print its fields
-  !   check-access    Ask whether a user may read, write or be notified of a variable (RFC 3415)
-  !   explain-access  Ask as check-access does, and print which rows of the configuration decided
-  !   who-sees        Print who may read, write or be notified of a variable: MODEL NAME LEVEL VIEW CONTEXT
-  !   sees            Print what a user may read, write or be notified of: LEVEL VIEW CONTEXT and subtrees
-  !   check-config    Read a configuration: print how many rows each table has, or what is wrong with it
-  !   import-snmpd    Print the configuration that files of net-snmp's snmpd come to
-  !   replay          Process a log of datagrams as a manager does: print a line for each, and then the clocks
-  !   merge-clocks    Print the join of saved clocks: of each engine the greatest boots and time
-  !   check-clocks    Print how many engines each file of saved clocks has, or what is wrong with it
-  !   check-log       Print how many lines a log has, or what is wrong with its first faulty line
-  !   datagrams       Print the UDP datagrams of a capture as a log for replay, a line MOMENT HEX for each
-  !   diagnose        Print what became of each request in a capture: answered, refused and why, or no answer
-  !   manual          Print the help of a command, or of all, on standard output
-  !   version         Print the name and the version of the program
-  !   help            Print this message or the help of the given subcommand(s)
-  !
-  ! Options:
-  !       --why   After a refusal, print on standard error what is wrong and what is expected
-  !   -h, --help  Print help
-  !
-  ! A file - is standard input, which can be read once.
-  [2]
+  Looks into SNMPv3 messages, view-based access, logs of datagrams and saved clocks
+  
+  Usage: snmpsec [OPTIONS] <COMMAND>
+  
+  Commands:
+    show            Print the fields of an SNMPv3 message, a field a line, and its canonical spelling
+    open            Authenticate and decrypt an SNMPv3 message with the users' passwords, and print its fields
+    check-access    Ask whether a user may read, write or be notified of a variable (RFC 3415)
+    explain-access  Ask as check-access does, and print which rows of the configuration decided
+    who-sees        Print who may read, write or be notified of a variable: MODEL NAME LEVEL VIEW CONTEXT
+    sees            Print what a user may read, write or be notified of: LEVEL VIEW CONTEXT and subtrees
+    check-config    Read a configuration: print how many rows each table has, or what is wrong with it
+    import-snmpd    Print the configuration that files of net-snmp's snmpd come to
+    replay          Process a log of datagrams as a manager does: print a line for each, and then the clocks
+    merge-clocks    Print the join of saved clocks: of each engine the greatest boots and time
+    check-clocks    Print how many engines each file of saved clocks has, or what is wrong with it
+    check-log       Print how many lines a log has, or what is wrong with its first faulty line
+    datagrams       Print the UDP datagrams of a capture as a log for replay, a line MOMENT HEX for each
+    diagnose        Print what became of each request in a capture: answered, refused and why, or no answer
+    manual          Print the help of a command, or of all, on standard output
+    version         Print the name and the version of the program
+    help            Print this message or the help of the given subcommand(s)
+  
+  Options:
+        --why   After a refusal, print on standard error what is wrong and what is expected
+    -h, --help  Print help
+  
+  A file - is standard input, which can be read once.
+  $ snmpsec -h > help && snmpsec --help | cmp - help
+  $ snmpsec --version && snmpsec -V
+  snmpsec 0.1.0
+  snmpsec 0.1.0
 
 The help of a command explains its arguments and its status.
 
@@ -153,10 +156,8 @@ The help of a command explains its arguments and its status.
   >   snmpsec manual $command > manual || echo $?
   >   sed 's/^! //; s/^!$//' help | cmp - manual
   > done
-  $ snmpsec --help 2> help
-  [2]
-  $ snmpsec manual > manual
-  $ sed 's/^! //; s/^!$//' help | cmp - manual
+  $ snmpsec --help > help
+  $ snmpsec manual | cmp - help
   $ snmpsec manual shout
   ! error: unrecognized subcommand 'shout'
   !
