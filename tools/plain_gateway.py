@@ -478,6 +478,7 @@ class Gateway:
         self.ids = [[] for _ in devices]
         self.counters = dict.fromkeys(COUNTERS, 0)
         self.said = ""  # error-status and error-index of the last Response, or that it was a Report
+        self.told = None  # those of the last Response
         self.log = []
 
     # ---- what comes from clients
@@ -499,7 +500,8 @@ class Gateway:
         self.log.append(("accepted", message))
         self.sets = {datagram: it for datagram, it in self.sets.items() if now - it[0] <= REMEMBERED}
         for request in self.requests:
-            if request.messages[0].asks == message.asks:
+            # (what was told before of another datagram isn't the answer to this one)
+            if request.messages[0].asks == message.asks and not (request.ends and request.ends.what == "again"):
                 return self.join(now, request, message)
         if len(self.requests) >= self.limits["waiting"]:
             return "no room"
@@ -552,7 +554,7 @@ class Gateway:
             says = self.sets[message.datagram][1]
             if says is None:
                 return False
-            raise Ends("own", *says)
+            raise Ends("again", *says)
         view = self.tables.view_of(message, True)
         if message.names and isinstance(view, str):
             raise Ends("own", AUTHORIZATION_ERROR, 0)
@@ -708,10 +710,11 @@ class Gateway:
         what, numbers = request.ends.what, request.ends.numbers
         if what == "silent":
             return None
-        if what == "own":
-            if message.datagram in self.sets:
-                self.sets[message.datagram] = self.sets[message.datagram][0], numbers
-            return self.fitting(now, request, message, *numbers, None, salt)
+        if what in ("own", "again"):
+            datagram = self.fitting(now, request, message, *numbers, None, salt)
+            if datagram is not None and message.datagram in self.sets:
+                self.sets[message.datagram] = self.sets[message.datagram][0], self.told
+            return datagram
         if what == "columns":
             return self.fitting(
                 now, request, message, 0, 0, [column.binding(0) for column in request.talk.columns], salt
@@ -743,7 +746,7 @@ class Gateway:
         if len(datagram) > self.limit_of(message):
             return None
         self.log.append(("responds", request, message, status, index, shown))
-        self.said = f"{status} {index}"
+        self.said, self.told = f"{status} {index}", (status, index)
         return datagram
 
     def due(self):

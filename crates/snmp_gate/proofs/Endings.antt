@@ -1,5 +1,5 @@
 -- How a device's answer ends a request.
-use Rattle.std.specs.Prelude.{◌≡◌}
+use Rattle.std.specs.Prelude.{◌≡◌, None}
 use Rattle.std.proofs.Common.{ap, inr, refl, sym, ◌∙◌}
 use Rattle.snmp_msg.specs.Pdu.{pdu_of}
 use Rattle.snmp_msg.specs.declared.pdu.Pdu.{Pdu}
@@ -31,7 +31,7 @@ fails_end q told (Unfit why) read fails = read
 
 -- a Set that ends without an error was done
 set_ends : (tables : Tables) (q : Question) (told : Said) (answer : Pdu) (says : ResponseStatus) → SaysAll (request_of_task q task.Set) answer told → TaskStands tables q told task.Set → IsToldStatus answer.second says.status
-    → IsOwnStatus q told says
+    → IsOwnStatus q told None says
 set_ends tables q told answer says all stands is = record {
   no_error = λ none. stands.tag;
   set = λ is_set. inr (inr (record { exchange = record { asked = request_of_task q task.Set; answer = pdu_of answer }; there = all.exchange; set = refl; told = is }));

@@ -6,8 +6,8 @@ use Rattle.snmp_gate.specs.Devices.{IsDeviceOf}
 use Rattle.snmp_gate.specs.Groups.{Group, IsWorked, group_of, groups_of}
 use Rattle.snmp_gate.specs.History.{AskedBy, Happening, given_up, open_ask}
 use Rattle.snmp_gate.specs.Sending.{IsAskedAt, IsGivenUp, IsOpenAt}
-use Rattle.snmp_gate.specs.Waiting.{EndsAsk, GateStands, GroupStands, Happens, OpenStands, SetsStand, WorkStands, asks_in}
-use Rattle.snmp_gate.specs.Work.{request_of_task}
+use Rattle.snmp_gate.specs.Waiting.{EndsAsk, GateStands, GroupStands, Happens, OpenStands, OutcomesStand, SetsStand, WorkStands, asks_in}
+use Rattle.snmp_gate.specs.Work.{IsToldFirst, request_of_task}
 use Rattle.snmp_gate.specs.declared.asks.TheConstants.{REQUEST_IDS}
 use Rattle.snmp_gate.specs.declared.devices.Devices.{Devices}
 use Rattle.snmp_gate.specs.declared.gate.Gate.{Gate}
@@ -16,6 +16,7 @@ use Rattle.snmp_gate.specs.declared.sets.RememberedSets.{RememberedSets}
 use Rattle.snmp_gate.specs.declared.waiting_message.WaitingMessage.{WaitingMessage}
 use Rattle.snmp_gate.specs.declared.work.OpenRequest.{OpenRequest}
 use Rattle.snmp_gate.specs.declared.work.RequestEnd.{RequestEnd}
+use Rattle.snmp_gate.specs.declared.work.RequestEnd.TheVariants as ending
 use Rattle.snmp_gate.specs.declared.work.Work.{Work}
 use Rattle.snmp_gate.specs.declared.work.Work.TheVariants.{Open, Ends}
 use Rattle.snmp_gate.proofs.Asked.{none_is_some}
@@ -24,7 +25,7 @@ use Rattle.snmp_gate.proofs.Endings.{one_open}
 use Rattle.snmp_gate.proofs.GroupSteps.{group_at}
 use Rattle.snmp_gate.proofs.Histories.{asked_by, given_up_all, given_up_ends, group_in, moved}
 use Rattle.snmp_gate.proofs.Others.{chosen, open_other}
-use Rattle.snmp_gate.proofs.SetsGoing.{given_up_sets}
+use Rattle.snmp_gate.proofs.SetsGoing.{given_up_outcomes, given_up_sets}
 use Rattle.std.proofs.lemmas.List.{get_or_default}
 
 -- what is known of the request at the place
@@ -75,6 +76,11 @@ pick [] i within = absurd (omega (arith, within))
 pick (x ∷ xs) zero within = (x, refl)
 pick (x ∷ xs) (suc i) within = pick xs i (omega (arith, within))
 
+given_up_first : (e : RequestEnd) → IsGivenUp e → IsToldFirst e
+given_up_first ending.Silent is = tt
+given_up_first (ending.Unhandled why) is = tt
+given_up_first _ is = absurd is
+
 pub gives_up : (old new : Gate) (since now : ℕ) (before : List Happening) (place number device : ℕ) (asked : Option ℕ) (was : Work) (e : RequestEnd) → since ≤ now
     → place < length old.requests.list.items → IsOpenAt old.requests.list.items place device number
     → IfSome asked (λ id. (id < REQUEST_IDS) × IsAskedAt old.requests.list.items place id) → IsGivenUp e → new.agent.tables ≡ old.agent.tables → new.devices ≡ old.devices → new.requests.next ≡ old.requests.next → new.sets ≡ old.sets
@@ -97,12 +103,13 @@ gives_up old new since now before place number device asked was e later within o
         own_id = tt;
         once = tt;
       };
-      tried = tt;
+      allowed = tt;
       stands = record {
         requests = moved old.agent.tables new.agent.tables old.devices.list.items new.devices.list.items (now_up ∷ before) old.requests.next new.requests.next news news tables (ap (λ (d : Devices). d.list.items) devices) next refl
             (given_up_all old.agent.tables old.devices.list.items before old.requests.next gs news place number device was e (given_up_ends old.agent.tables e ends) worked (sym (ap (λ (g : Group WaitingMessage Work). g.number) same) ∙ known.number_is) stands.requests);
         asks = asks_ended now_up before number device (chosen number None (open_ask number before)) (λ k other. open_other now_up before k other) asked (asks_in old.asks.items) (asks_in new.asks.items)
             ended (asked_open old before place number device known asked asks) stands.asks;
         sets = subst (λ (s : RememberedSets). SetsStand now (now_up ∷ before) news s.sets.items) (sym sets) (given_up_sets since now number device before gs news place was e old.sets.sets.items later worked stands.sets);
+        outcomes = subst (λ (s : RememberedSets). OutcomesStand (now_up ∷ before) news s.sets.items) (sym sets) (given_up_outcomes number device before gs news place was e old.sets.sets.items (given_up_first e ends) worked stands.outcomes);
       };
     }

@@ -1,5 +1,5 @@
 -- What is known of the requests that wait, as more happens.
-use Rattle.std.specs.Prelude.{min, ◌≡◌, ◌≢◌, ◌⊎◌, ◌∷◌, ◌++◌, ◌+◌, ◌-◌, ◌^◌, ◌<◌, ◌≤◌, ⊤, ℕ, pos, Bool, cond, drop, remove, List, [], All, AllPairs, Contains, Option, Some, None, length, map, slice_index_or, slice_set}
+use Rattle.std.specs.Prelude.{min, ◌≡◌, ◌≢◌, ◌⊎◌, ◌∷◌, ◌++◌, ◌+◌, ◌-◌, ◌^◌, ◌<◌, ◌≤◌, ⊤, ℕ, pos, Bool, cond, drop, remove, List, [], All, AllPairs, Contains, IfSome, Option, Some, None, length, map, slice_index_or, slice_set}
 use Rattle.std.proofs.Common.{refl, sym, ap, subst, ◌∙◌, inl, inr, arith}
 use Rattle.std.proofs.lemmas.Bool.Decides.{Decides-int_eq, eqb_tells, leb_tells}
 use Rattle.std.proofs.lemmas.List.{get_or_default, get_or-set_other, get_or-set_same, length-set}
@@ -19,7 +19,7 @@ use Rattle.snmp_gate.specs.Groups.{Group, IsAnswered, IsAt, IsLeft, IsWorked, gr
 use Rattle.snmp_gate.specs.Messages.{question_in}
 use Rattle.snmp_incoming.specs.Outcome.{Given}
 use Rattle.snmp_gate.specs.Replies.{Answering, ClientAnswer, IsAnswerTo, answer_with}
-use Rattle.snmp_gate.specs.Sending.{IsGivenUp, IsOpenAt, MayAskAt, RepliesTo, Requests, SetsAsked}
+use Rattle.snmp_gate.specs.Sending.{IsGivenUp, IsOpenAt, MayAskAt, RepliesTo, Requests, SetsAsked, again_in}
 use Rattle.snmp_gate.specs.declared.devices.Devices.{Devices}
 use Rattle.snmp_gate.specs.declared.gate.Gate.{Gate}
 use Rattle.snmp_gate.specs.declared.reply.Reply.{Reply}
@@ -37,13 +37,13 @@ use Rattle.snmp_gate.specs.declared.work.RequestEnd.TheVariants as ending
 use Rattle.std.proofs.lemmas.Bool.{false≢true}
 use Rattle.snmp_gate.specs.declared.requests.WaitingRequest.{WaitingRequest}
 use Rattle.snmp_gate.proofs.GroupSteps.{group_at, groups_set}
-use Rattle.snmp_gate.specs.History.{AskedBy, Happening, IsAccepted, IsAnswerOf, IsCommunityFor, IsMediated, MayAskFor, OpenAsk, accepted, answered, asked, asked_more, ends_in, exchange_in, given_up, more_said, number_of, open_ask, said_by, sent, told_in, unanswered, waiting_in}
+use Rattle.snmp_gate.specs.History.{AskedBy, Happening, IsAccepted, IsAnswerOf, IsCommunityFor, IsMediated, IsToldAgain, IsAskFor, OpenAsk, accepted, answered, asked, asked_more, ends_in, exchange_in, given_up, more_said, number_of, open_ask, said_by, sent, told_in, unanswered, waiting_in}
 use Rattle.snmp_gate.specs.Lawful.{IsInTurn, IsNext, WasAsked}
 use Rattle.snmp_gate.specs.Limits.{asks_since}
 use Rattle.snmp_gate.specs.Question.{Question}
 use Rattle.snmp_gate.specs.Time.{times_asked}
 use Rattle.snmp_gate.specs.Waiting.{AllCameFrom, AreNumbered, GroupStands, GroupsStand, OpenStands, RequestsStand, WorkStands}
-use Rattle.snmp_gate.specs.Work.{EndingStands, SaysAll, TaskStands, end_of, request_of_task}
+use Rattle.snmp_gate.specs.Work.{EndingStands, SaysAll, TaskStands, again_of, end_of, request_of_task}
 use Rattle.snmp_gate.specs.declared.devices.Device.{Device}
 use Rattle.snmp_gate.specs.declared.waiting_message.WaitingMessage.{WaitingMessage}
 use Rattle.snmp_gate.specs.declared.work.OpenRequest.{OpenRequest}
@@ -370,7 +370,7 @@ asked_all agent devices before next rs new place device number id datagram withi
     let by = asked_by tables devices before r group in
     let what = request_of_task q o.task.task in
     let may_ask = subst (λ (x : WaitingRequest WaitingMessage Work). (p : OpenRequest) (c : Question) (told : Said) → x.work ≡ Open p → question_in x.first ≡ Some c → TaskStands tables c told p.task.task
-    → HoldsAt (λ (d : Device). MayAskFor tables d c told id (request_of_task c p.task.task) datagram.items) devices device) (sym sets.is) (may r) in
+    → HoldsAt (λ (d : Device). IsAskFor tables d c told id (request_of_task c p.task.task) datagram.items) devices device) (sym sets.is) (may r) in
     let now = asked r.number device id what datagram.items in
     let a = sets.asked o work_is in
     let task : request_of_task q a.0.task.task ≡ what = ap (λ (t : NamedTask). request_of_task q t.task) a.2 in
@@ -560,11 +560,12 @@ IsReplyWith (reply.Reports datagram) answer = answer ≡ answer_with None datagr
 IsReplyWith _ answer = ⊥
 
 answer_law : (agent : AgentState) (devices : List Device) (before : List Happening) (n seconds : ℕ) (salt : List ℕ) (q : Question) (g : Given) (w : Work) (r : Reply) (answer : ClientAnswer) → IsReplyWith r answer
-    → RepliesTo agent seconds salt q (told_in n before) g w r → WorkStands agent.tables devices before n q w → IsAnswerTo (record { agent = agent; now = seconds; salt = salt }) agent.tables q (told_in n before) g answer
+    → RepliesTo agent seconds salt q (told_in n before) g w r → WorkStands agent.tables devices before n q w
+    → IsAnswerTo (record { agent = agent; now = seconds; salt = salt }) agent.tables q (told_in n before) (again_in w) g answer
 answer_law agent devices before n seconds salt q g (Ends e) (reply.Responds says datagram) answer is replies stands =
-    subst (λ (a : ClientAnswer). IsAnswerTo (record { agent = agent; now = seconds; salt = salt }) agent.tables q (told_in n before) g a) (sym is) (replies stands)
+    subst (λ (a : ClientAnswer). IsAnswerTo (record { agent = agent; now = seconds; salt = salt }) agent.tables q (told_in n before) (again_of e) g a) (sym is) (replies stands)
 answer_law agent devices before n seconds salt q g (Ends e) (reply.Reports datagram) answer is replies stands =
-    subst (λ (a : ClientAnswer). IsAnswerTo (record { agent = agent; now = seconds; salt = salt }) agent.tables q (told_in n before) g a) (sym is) (replies stands)
+    subst (λ (a : ClientAnswer). IsAnswerTo (record { agent = agent; now = seconds; salt = salt }) agent.tables q (told_in n before) (again_of e) g a) (sym is) (replies stands)
 answer_law agent devices before n seconds salt q g (Ends e) reply.Nothing answer is replies stands = absurd is
 answer_law agent devices before n seconds salt q g (Ends e) reply.SilentDrop answer is replies stands = absurd is
 answer_law agent devices before n seconds salt q g (Ends e) (reply.Refused why) answer is replies stands = absurd is
@@ -610,24 +611,33 @@ first_at old new before place r m within is left stands =
       turn = (left.answer.others, group.wait ∙ messages);
     }
 
+pub first_of : (old new : Gate) (before : List Happening) (place : ℕ) (r : WaitingRequest WaitingMessage Work) (m : WaitingMessage) → place < length old.requests.list.items → r ≡ slice_index_or old.requests.list.items place r
+    → IsLeftAfter old place m new → RequestsStand before old → r.first ≡ m
+first_of old new before place r m within is left stands = (first_at old new before place r m within is left stands).first
+
 pub sent_all : (old new : Gate) (before : List Happening) (place seconds : ℕ) (salt : List ℕ) (r : WaitingRequest WaitingMessage Work) (m : WaitingMessage) (replied : Reply) (answer : ClientAnswer) → place < length old.requests.list.items
     → r ≡ slice_index_or old.requests.list.items place r → IsLeftAfter old place m new → IsReplyWith replied answer
     → ((q : Question) (said : Said) → question_in r.first ≡ Some q → RepliesTo old.agent seconds salt q said r.first.kept r.work replied)
-    → RequestsStand before old → IsEnd old before (sent r.number m (record { agent = old.agent; now = seconds; salt = salt }) answer) new
-sent_all old new before place seconds salt r m replied answer within is left with_this replies stands =
+    → IfSome (again_in r.work) (IsToldAgain before r.number m) → RequestsStand before old → IsEnd old before (sent r.number m (record { agent = old.agent; now = seconds; salt = salt }) answer) new
+sent_all old new before place seconds salt r m replied answer within is left with_this replies may stands =
     let by : Answering = record { agent = old.agent; now = seconds; salt = salt } in
     let at = first_at old new before place r m within is left stands in
     let group = at.group in
     let first = at.first in
     let asks = All-head (λ (x : WaitingMessage). question_in x ≡ Some group.question) r.first r.others.items group.asks in
+    let again = again_in r.work in
     let law = answer_law old.agent old.devices.list.items before r.number seconds salt group.question r.first.kept r.work replied answer with_this (replies group.question (told_in r.number before) asks) group.work in
     let accepted_first = All-head (IsAccepted before r.number) r.first r.others.items group.are_accepted in record {
       mediated = (
         subst (λ (x : WaitingMessage). IsAccepted before r.number x) first accepted_first,
-        (λ q asked.
-            let one = same_some group.question q (sym asks ∙ ap question_in first ∙ asked) in
-            subst (λ (x : WaitingMessage). IsAnswerTo by old.agent.tables q (told_in r.number before) x.kept answer) first
-            (subst (λ (x : Question). IsAnswerTo by old.agent.tables x (told_in r.number before) r.first.kept answer) one law)),
+        (
+          again,
+          may,
+          λ q asked.
+              let one = same_some group.question q (sym asks ∙ ap question_in first ∙ asked) in
+              subst (λ (x : WaitingMessage). IsAnswerTo by old.agent.tables q (told_in r.number before) again x.kept answer) first
+              (subst (λ (x : Question). IsAnswerTo by old.agent.tables x (told_in r.number before) again r.first.kept answer) one law),
+        ),
       );
       in_turn = at.turn;
       requests = left_stands old new (sent r.number m by answer) before place m left (subst (TakesOne (sent r.number m by answer) before) at.number_is (sent_takes r.number m by answer before)) stands;

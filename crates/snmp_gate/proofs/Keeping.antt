@@ -8,7 +8,7 @@ use Rattle.snmp_gate.specs.History.{Happening}
 use Rattle.snmp_gate.specs.Noting.{IsNotedAgain, IsNotedFor, IsUnnoted}
 use Rattle.snmp_gate.specs.Sets.{KeepsSets, lasting, lasts, new_set}
 use Rattle.snmp_gate.specs.Taking.{AllWorkSaysSame}
-use Rattle.snmp_gate.specs.Waiting.{AsksStand, GateStands, IsAsBefore, SameButSets, SetsStand, asks_in, messages_in}
+use Rattle.snmp_gate.specs.Waiting.{AsksStand, GateStands, IsAsBefore, OutcomesStand, SameButSets, SetsStand, asks_in, messages_in}
 use Rattle.snmp_gate.specs.declared.asks.DeviceAsks.{DeviceAsks}
 use Rattle.snmp_gate.specs.declared.devices.Devices.{Devices}
 use Rattle.snmp_gate.specs.declared.gate.Gate.{Gate}
@@ -23,7 +23,8 @@ use Rattle.snmp_gate.specs.declared.work.Work.{Work}
 use Rattle.snmp_gate.proofs.Coming.{same_stands}
 use Rattle.snmp_gate.proofs.Histories.{moved}
 use Rattle.snmp_gate.proofs.Same.{work_as_before}
-use Rattle.snmp_gate.proofs.SetsKept.{KeepsKnown, keeps_kept, keeps_same, sets_step}
+use Rattle.snmp_gate.proofs.Repeating.{from_kept, outcomes_kept, were_again}
+use Rattle.snmp_gate.proofs.SetsKept.{keeps_kept, sets_step}
 use Rattle.snmp_gate.specs.declared.sets.SetNote.TheVariants.{New, NoRoom, Repeated}
 use Rattle.std.proofs.lemmas.List.{length_push}
 use Rattle.std.proofs.lemmas.List.Elements.{All-head, All-tail, filter_passes}
@@ -59,20 +60,24 @@ unnoted now digest w a b c noted.NoRoom is un = subst (KeepsSets now a) (sym un)
 
 -- a gateway with the same requests and asks, which remembers what may still come
 pub stands_kept : (now : ℕ) (old new : Gate) → new.agent.tables ≡ old.agent.tables → new.devices ≡ old.devices → asks_in new.asks.items ≡ asks_in old.asks.items → groups_of new.requests.list.items ≡ groups_of old.requests.list.items
-    → new.requests.next ≡ old.requests.next → KeepsKnown now old.sets.sets.items new.sets.sets.items → (since : ℕ) (before : List Happening) → since ≤ now → GateStands since before old → GateStands now before new
+    → new.requests.next ≡ old.requests.next → KeepsSets now old.sets.sets.items new.sets.sets.items → (since : ℕ) (before : List Happening) → since ≤ now → GateStands since before old → GateStands now before new
 stands_kept now old new tables devices asks groups next keeps since before later stands = record {
   requests = moved old.agent.tables new.agent.tables old.devices.list.items new.devices.list.items before old.requests.next new.requests.next (groups_of old.requests.list.items) (groups_of new.requests.list.items)
       tables (ap (λ (d : Devices). d.list.items) devices) next groups stands.requests;
   asks = subst (AsksStand before) (sym asks) stands.asks;
   sets = subst (λ (gs : List (Group WaitingMessage Work)). SetsStand now before gs new.sets.sets.items) (sym groups)
-      (sets_step since now before before (groups_of old.requests.list.items) (groups_of old.requests.list.items) old.sets.sets.items new.sets.sets.items later (λ n at w m there. there) (λ n out. out) keeps stands.sets);
+      (sets_step since now before before (groups_of old.requests.list.items) (groups_of old.requests.list.items) old.sets.sets.items new.sets.sets.items later (λ n at w m there. there) (λ n out. out) (keeps_kept now old.sets.sets.items new.sets.sets.items keeps)
+      stands.sets);
+  outcomes = subst (λ (gs : List (Group WaitingMessage Work)). OutcomesStand before gs new.sets.sets.items) (sym groups)
+      (outcomes_kept before (groups_of old.requests.list.items) (groups_of old.requests.list.items) old.sets.sets.items new.sets.sets.items (from_kept before now old.sets.sets.items new.sets.sets.items keeps)
+      (were_again (groups_of old.requests.list.items)) stands.outcomes);
 }
 
 pub stands_later : (now : ℕ) (g : Gate) (since : ℕ) (before : List Happening) → since ≤ now → GateStands since before g → GateStands now before g
-stands_later now g = stands_kept now g g refl refl refl refl refl (keeps_same now g.sets.sets.items g.sets.sets.items refl)
+stands_later now g = stands_kept now g g refl refl refl refl refl (inl refl)
 
 -- the same, where only the Sets changed that are remembered
-pub stands_noted : (now : ℕ) (old new : Gate) → SameButSets old new → KeepsKnown now old.sets.sets.items new.sets.sets.items → (since : ℕ) (before : List Happening) → since ≤ now → GateStands since before old → GateStands now before new
+pub stands_noted : (now : ℕ) (old new : Gate) → SameButSets old new → KeepsSets now old.sets.sets.items new.sets.sets.items → (since : ℕ) (before : List Happening) → since ≤ now → GateStands since before old → GateStands now before new
 stands_noted now old new same keeps =
     stands_kept now old new (ap (λ (a : AgentState). a.tables) same.agent) same.devices (ap (λ (v : Vec DeviceAsks). asks_in v.items) same.asks) (ap (λ (rs : WaitingRequests WaitingMessage Work). groups_of rs.list.items) same.requests)
     (ap (λ (rs : WaitingRequests WaitingMessage Work). rs.next) same.requests) keeps
@@ -106,7 +111,7 @@ as_before now old new agent devices limits asks groups next sets = record {
   work = work_as_before (groups_of old.requests.list.items) (groups_of new.requests.list.items) groups;
   next = next;
   sets = sets;
-  stands = stands_kept now old new (ap (λ (a : AgentState). a.tables) agent) devices (ap (λ (v : Vec DeviceAsks). asks_in v.items) asks) groups next (keeps_kept now old.sets.sets.items new.sets.sets.items sets);
+  stands = stands_kept now old new (ap (λ (a : AgentState). a.tables) agent) devices (ap (λ (v : Vec DeviceAsks). asks_in v.items) asks) groups next sets;
 }
 
 -- nothing changes

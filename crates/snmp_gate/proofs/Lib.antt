@@ -9,6 +9,8 @@ pub mod SetMemory
 pub mod Tags
 pub mod Timers
 pub mod ReadNames
+mod Knowing
+mod Repeating
 pub mod Contexts
 pub mod Counts
 pub mod Asked
@@ -31,6 +33,7 @@ pub mod AskingWell
 pub mod Same
 pub mod Keeping
 pub mod Running
+mod Short
 pub mod Dues
 pub mod Bounded
 pub mod Todos

@@ -8,8 +8,8 @@ use Rattle.vacm_core.specs.Tables.{Tables}
 use Rattle.snmp_incoming.specs.Outcome.{Outcome}
 use Rattle.snmp_agent.specs.Agent.{AgentState, taker_of}
 use Rattle.snmp_gate.specs.Bounds.{AreBounded, AsksBounded, IsBounded}
-use Rattle.snmp_gate.specs.Limits.{AlwaysKeepsTo, IsTriedFew, KeepsTo, WaitInTime}
-use Rattle.snmp_gate.specs.History.{Happening, IsMediated, MayAskFor, accepted, answered, asked, given_up, sent, told_in, unanswered, waiting_in}
+use Rattle.snmp_gate.specs.Limits.{AlwaysKeepsTo, IsAllowedBy, KeepsTo, WaitInTime}
+use Rattle.snmp_gate.specs.History.{Happening, IsMediated, IsAskFor, accepted, answered, asked, given_up, sent, told_in, unanswered, waiting_in}
 use Rattle.snmp_gate.specs.Lawful.{AreLawful, IsLawful}
 use Rattle.snmp_gate.specs.Replies.{IsAnswerTo, SameAgent, answer_with}
 use Rattle.snmp_gate.specs.Runs.{Event, IsHistoryOf, IsRun, IsSealedBy, accepted_for, accepted_in, answered_in, answers_of, asked_in, client_comes, device_comes, ended_for, finds_no_memory, goes_out, moment_of, sealed_in, sealed_with, sent_in, taken_from, to_clients, to_devices}
@@ -38,10 +38,10 @@ mediated_same a b devices others before (accepted n now w m) same d is =
     (subst (λ users. Outcome (taker_of b) users (now / 1000) w (Ok m.kept)) same.users is)))
 mediated_same a b devices others before (asked n to id what w) same d is =
     subst (λ (ds : List Device). IsMediated a ds before (asked n to id what w)) d
-    (is.0, is.1, is.2, subst (λ (t : Tables). HoldsAt (λ (x : Device). MayAskFor t x is.0 (told_in n before) id what w) others to) same.tables is.3)
+    (is.0, is.1, is.2, subst (λ (t : Tables). HoldsAt (λ (x : Device). IsAskFor t x is.0 (told_in n before) id what w) others to) same.tables is.3)
 mediated_same a b devices others before (answered n to p w) same d is = subst (λ (ds : List Device). IsMediated a ds before (answered n to p w)) d is
 mediated_same a b devices others before (sent n m by w) same d is =
-    (is.0, λ q asks. subst (λ (t : Tables). IsAnswerTo by t q (told_in n before) m.kept w) same.tables (is.1 q asks))
+    (is.0, (is.1.0, is.1.1, λ q asks. subst (λ (t : Tables). IsAnswerTo by t q (told_in n before) is.1.0 m.kept w) same.tables (is.1.2 q asks)))
 mediated_same a b devices others before (unanswered n m) same d is = is
 mediated_same a b devices others before (given_up n to) same d is = subst (λ (ds : List Device). IsMediated a ds before (given_up n to)) d is
 
@@ -71,8 +71,8 @@ keeps_more first last now history stays stands b =
     (subst (λ (l : GateLimits). AreBounded l last.requests) stays.limits bounded.requests) (subst (λ (d : Devices). AsksBounded d.list.items last.asks.items) stays.devices bounded.asks)
 
 -- the limits are the same
-tried_few : (first middle : Gate) (before : List Happening) (e : Happening) → Stays first middle → IsTriedFew middle.limits before e → IsTriedFew first.limits before e
-tried_few first middle before e stays tried = subst (λ (l : GateLimits). IsTriedFew l before e) stays.limits tried
+allowed_first : (first middle : Gate) (before : List Happening) (e : Happening) → Stays first middle → IsAllowedBy middle.limits before e → IsAllowedBy first.limits before e
+allowed_first first middle before e stays allowed = subst (λ (l : GateLimits). IsAllowedBy l before e) stays.limits allowed
 
 -- a history with what happens now
 happened : (first middle last : Gate) (now : ℕ) (e : Happening) (history : List Happening) (events : List Event) (event : Event) → Stays first middle → IsHistoryOf first events history → Happens middle now history e last
@@ -95,14 +95,14 @@ client_stands first middle last now from w (client.Begins n) events known stays 
   is = happened first middle last now (accepted n now w happens.0) known.history events (client_comes now from w (client.Begins n)) known.stays known.is happens.2 (λ i. (now, sym happens.1 i, w) ∷ known.is.requests i) known.is.answers known.is.seals tt known.is.devices known.is.clients;
   stands = happens.2.stands;
   stays = stays_on first middle last known.stays stays;
-  keeps = λ b. (keeps_more first last now (accepted n now w happens.0 ∷ known.history) (stays_on first middle last known.stays stays) happens.2.stands b, tried_few first middle known.history (accepted n now w happens.0) known.stays happens.2.tried, known.keeps b);
+  keeps = λ b. (keeps_more first last now (accepted n now w happens.0 ∷ known.history) (stays_on first middle last known.stays stays) happens.2.stands b, allowed_first first middle known.history (accepted n now w happens.0) known.stays happens.2.allowed, known.keeps b);
 }
 client_stands first middle last now from w (client.Joins n) events known stays happens = record {
   history = accepted n now w happens.0 ∷ known.history;
   is = happened first middle last now (accepted n now w happens.0) known.history events (client_comes now from w (client.Joins n)) known.stays known.is happens.2 (λ i. (now, sym happens.1 i, w) ∷ known.is.requests i) known.is.answers known.is.seals tt known.is.devices known.is.clients;
   stands = happens.2.stands;
   stays = stays_on first middle last known.stays stays;
-  keeps = λ b. (keeps_more first last now (accepted n now w happens.0 ∷ known.history) (stays_on first middle last known.stays stays) happens.2.stands b, tried_few first middle known.history (accepted n now w happens.0) known.stays happens.2.tried, known.keeps b);
+  keeps = λ b. (keeps_more first last now (accepted n now w happens.0 ∷ known.history) (stays_on first middle last known.stays stays) happens.2.stands b, allowed_first first middle known.history (accepted n now w happens.0) known.stays happens.2.allowed, known.keeps b);
 }
 client_stands first middle last now from w (client.Refused why) events known stays happens = record { history = known.history; is = record { lawful = known.is.lawful; requests = known.is.requests; answers = known.is.answers; seals = known.is.seals; senders = known.is.senders; devices = known.is.devices; clients = known.is.clients }; stands = happens; stays = stays_on first middle last known.stays stays; keeps = known.keeps }
 client_stands first middle last now from w client.NoRoom events known stays happens = record { history = known.history; is = record { lawful = known.is.lawful; requests = known.is.requests; answers = known.is.answers; seals = known.is.seals; senders = known.is.senders; devices = known.is.devices; clients = known.is.clients }; stands = happens; stays = stays_on first middle last known.stays stays; keeps = known.keeps }
@@ -115,7 +115,7 @@ device_stands first middle last now number w (device.Answers n why hidden) event
   is = happened first middle last now (answered n number happens.0 w) known.history events (device_comes now number w (device.Answers n why hidden)) known.stays known.is happens.1 known.is.requests (λ i. (number, w) ∷ known.is.answers i) known.is.seals tt known.is.devices known.is.clients;
   stands = happens.1.stands;
   stays = stays_on first middle last known.stays stays;
-  keeps = λ b. (keeps_more first last now (answered n number happens.0 w ∷ known.history) (stays_on first middle last known.stays stays) happens.1.stands b, tried_few first middle known.history (answered n number happens.0 w) known.stays happens.1.tried, known.keeps b);
+  keeps = λ b. (keeps_more first last now (answered n number happens.0 w ∷ known.history) (stays_on first middle last known.stays stays) happens.1.stands b, allowed_first first middle known.history (answered n number happens.0 w) known.stays happens.1.allowed, known.keeps b);
 }
 device_stands first middle last now number w device.Unreadable events known stays happens = record { history = known.history; is = record { lawful = known.is.lawful; requests = known.is.requests; answers = known.is.answers; seals = known.is.seals; senders = known.is.senders; devices = known.is.devices; clients = known.is.clients }; stands = happens; stays = stays_on first middle last known.stays stays; keeps = known.keeps }
 device_stands first middle last now number w device.NotWaitedFor events known stays happens = record { history = known.history; is = record { lawful = known.is.lawful; requests = known.is.requests; answers = known.is.answers; seals = known.is.seals; senders = known.is.senders; devices = known.is.devices; clients = known.is.clients }; stands = happens; stays = stays_on first middle last known.stays stays; keeps = known.keeps }
@@ -128,7 +128,7 @@ send_stands first middle last now f (out.ToClient n to says w) events known stay
           (λ i. ((happens.1 i).items, answer_with says w) ∷ known.is.clients i);
       stands = happens.2.stands;
       stays = stays_on first middle last known.stays stays;
-      keeps = λ b. (keeps_more first last now (e ∷ known.history) (stays_on first middle last known.stays stays) happens.2.stands b, tried_few first middle known.history e known.stays happens.2.tried, known.keeps b);
+      keeps = λ b. (keeps_more first last now (e ∷ known.history) (stays_on first middle last known.stays stays) happens.2.stands b, allowed_first first middle known.history e known.stays happens.2.allowed, known.keeps b);
     }
 send_stands first middle last now f (out.ToDevice n to w) events known stays happens =
     let e = asked n to happens.0 happens.1 w.items in record {
@@ -136,7 +136,7 @@ send_stands first middle last now f (out.ToDevice n to w) events known stays hap
       is = happened first middle last now e known.history events (goes_out now f (out.ToDevice n to w)) known.stays known.is happens.3 known.is.requests known.is.answers known.is.seals tt (λ i. (to, w.items) ∷ known.is.devices i) known.is.clients;
       stands = happens.3.stands;
       stays = stays_on first middle last known.stays stays;
-      keeps = λ b. (keeps_more first last now (e ∷ known.history) (stays_on first middle last known.stays stays) happens.3.stands b, tried_few first middle known.history e known.stays happens.3.tried, known.keeps b);
+      keeps = λ b. (keeps_more first last now (e ∷ known.history) (stays_on first middle last known.stays stays) happens.3.stands b, allowed_first first middle known.history e known.stays happens.3.allowed, known.keeps b);
     }
 send_stands first middle last now f (out.Unanswered n why) events known stays happens =
     let e = unanswered n happens.0 in record {
@@ -144,7 +144,7 @@ send_stands first middle last now f (out.Unanswered n why) events known stays ha
       is = happened first middle last now e known.history events (goes_out now f (out.Unanswered n why)) known.stays known.is happens.1 known.is.requests known.is.answers known.is.seals tt known.is.devices known.is.clients;
       stands = happens.1.stands;
       stays = stays_on first middle last known.stays stays;
-      keeps = λ b. (keeps_more first last now (e ∷ known.history) (stays_on first middle last known.stays stays) happens.1.stands b, tried_few first middle known.history e known.stays happens.1.tried, known.keeps b);
+      keeps = λ b. (keeps_more first last now (e ∷ known.history) (stays_on first middle last known.stays stays) happens.1.stands b, allowed_first first middle known.history e known.stays happens.1.allowed, known.keeps b);
     }
 send_stands first middle last now f (out.GivenUp n to) events known stays happens =
     let e = given_up n to in record {
@@ -152,7 +152,7 @@ send_stands first middle last now f (out.GivenUp n to) events known stays happen
       is = happened first middle last now e known.history events (goes_out now f (out.GivenUp n to)) known.stays known.is happens known.is.requests known.is.answers known.is.seals tt known.is.devices known.is.clients;
       stands = happens.stands;
       stays = stays_on first middle last known.stays stays;
-      keeps = λ b. (keeps_more first last now (e ∷ known.history) (stays_on first middle last known.stays stays) happens.stands b, tried_few first middle known.history e known.stays happens.tried, known.keeps b);
+      keeps = λ b. (keeps_more first last now (e ∷ known.history) (stays_on first middle last known.stays stays) happens.stands b, allowed_first first middle known.history e known.stays happens.allowed, known.keeps b);
     }
 send_stands first middle last now f out.Nothing events known stays happens = record { history = known.history; is = record { lawful = known.is.lawful; requests = known.is.requests; answers = known.is.answers; seals = known.is.seals; senders = known.is.senders; devices = known.is.devices; clients = known.is.clients }; stands = happens; stays = stays_on first middle last known.stays stays; keeps = known.keeps }
 

@@ -1,24 +1,35 @@
 -- Responses that were written.
-use Rattle.std.specs.Prelude.{◌≡◌, ℕ, List, Option, Some, None, Result, Ok, Err, IfOk, IfSome}
+use Rattle.std.specs.Prelude.{◌≡◌, ◌≤◌, ℕ, List, Option, Some, None, Result, Ok, Err, IfOk, IfSome, length}
+use Rattle.std.specs.declared.alloc.AllocError.{AllocError}
 use Rattle.snmp_message.specs.declared.refusal.Refusal.{Refusal}
 use Rattle.snmp_outgoing.specs.UpTo.{UpTo, fits}
 use Rattle.snmp_agent.specs.Agent.{AgentState}
 use Rattle.snmp_agent.specs.Dispatch.{Refuses, agent_counted}
 use Rattle.snmp_agent.specs.declared.unhandled.Unhandled.{Unhandled}
 use Rattle.snmp_incoming.specs.Outcome.{Given}
-use Rattle.snmp_msg.specs.Pdu.{PduParts}
+use Rattle.snmp_message.specs.Scoped.{Contexts, ScopedFront}
+use Rattle.snmp_msg.specs.Pdu.{PduParts, PduText}
 use Rattle.snmp_msg.specs.Variables.{Variable}
 use Rattle.engine_clock.specs.Pairs.{BootsAndTime}
 use Rattle.usm_core.specs.Sealed.{Sending}
 use Rattle.usm_core.specs.Table.{holds}
 use Rattle.snmp_outgoing.specs.Fronts.{FrontText}
 use Rattle.snmp_agent.specs.Sent.{Sends, SendsFront}
-use Rattle.std.proofs.Common.{ap, subst, take, ℤ}
+use Rattle.std.proofs.Common.{ap, arith, subst, take, ℤ}
+use Rattle.snmp_gate.specs.Limits.{IsLimit, IsShortFor, IsShortReply, IsShortReplyFor}
 use Rattle.snmp_gate.specs.Replies.{Answering, IsSent, SameAgent}
+use Rattle.snmp_gate.specs.declared.limits.GateLimits.{GateLimits}
+use Rattle.snmp_gate.specs.declared.reply.Reply.{Reply}
+use Rattle.snmp_gate.specs.declared.reply.Reply.TheVariants as reply
+use Rattle.snmp_gate.specs.declared.waiting_message.WaitingMessage.{WaitingMessage}
 
 -- a text that fits is one of the table
 pub within : (limit : ℕ) (table : Result (List ℕ) Refusal → Type 0) (text : List ℕ) → UpTo limit table (Ok text) → table (Ok text)
 within limit table text (fits _ is le) = is
+
+-- and has at most so many octets
+pub within_limit : (limit : ℕ) (table : Result (List ℕ) Refusal → Type 0) (text : List ℕ) → UpTo limit table (Ok text) → length text ≤ limit
+within_limit limit table text (fits _ is le) = le
 
 counted : (a b : AgentState) (why : Unhandled) → b ≡ agent_counted a why → SameAgent a b
 counted a b why is = record {
@@ -38,6 +49,30 @@ refused_same old new now g p why salt (Some text) is = counted old new why is.1
 pub front_sent : (agent : AgentState) (now limit : ℕ) (message : BootsAndTime → List Variable → Sending) (vs : List Variable) (f : FrontText)
     → SendsFront agent now limit message vs (Ok f) → Sends agent now (λ (own : BootsAndTime). message own (take f.count vs)) (Ok f.text)
 front_sent agent now limit message vs f (holds runs rows) = holds runs rows.0
+
+pub front_within : (agent : AgentState) (now limit : ℕ) (message : BootsAndTime → List Variable → Sending) (vs : List Variable) (f : FrontText) → SendsFront agent now limit message vs (Ok f) → length f.text ≤ limit
+front_within agent now limit message vs f (holds runs rows) = rows.1
+
+-- what a kept message is answered is as short as what the message itself is
+pub short_of_message : (r : Result Reply AllocError) (limit : ℕ) (g kept : Given) → g ≡ kept → IfOk r (λ (reply : Reply). (c : Contexts) (p : PduParts) → ScopedFront g.text c → PduText c.pdu p → IsShortReply limit reply)
+    → IfOk r (λ (reply : Reply). (c : Contexts) (p : PduParts) → ScopedFront kept.text c → PduText c.pdu p → IsShortReply limit reply)
+short_of_message r limit g kept same short =
+    subst (λ (x : Given). IfOk r (λ (reply : Reply). (c : Contexts) (p : PduParts) → ScopedFront x.text c → PduText c.pdu p → IsShortReply limit reply)) same short
+
+short_octets : (limits : GateLimits) (m : WaitingMessage) (limit : ℕ) (datagram : List ℕ) → IsLimit limits m.kept.level m.kept.max_size m.size limit → length datagram ≤ limit → IsShortFor limits m datagram
+short_octets limits m limit datagram is le = record {
+  taken = omega (arith, le, is.taken);
+  datagram = omega (arith, le, is.datagram);
+  short = λ must. let most = is.short must in omega (arith, le, most);
+}
+
+-- an answer within the limit of its message is short
+pub short_for : (limits : GateLimits) (m : WaitingMessage) (limit : ℕ) (r : Reply) → IsLimit limits m.kept.level m.kept.max_size m.size limit → IsShortReply limit r → IsShortReplyFor limits m r
+short_for limits m limit (reply.Responds says datagram) is le = short_octets limits m limit datagram.items is le
+short_for limits m limit (reply.Reports datagram) is le = short_octets limits m limit datagram.items is le
+short_for limits m limit reply.Nothing is le = tt
+short_for limits m limit reply.SilentDrop is le = tt
+short_for limits m limit (reply.Refused why) is le = tt
 
 -- the same with numbers that are equal
 pub sent_with : (a : Answering) (g : Given) (status index own_status own_index : ℤ) (vs : List Variable) (datagram : List ℕ) → own_status ≡ status → own_index ≡ index

@@ -7,7 +7,7 @@ use Rattle.snmp_msg.specs.PduTypes.{pdu_tag}
 use Rattle.snmp_msg.specs.declared.pdu_type.PduType.TheVariants.{SetRequest}
 use Rattle.vacm_core.specs.Tables.{Tables}
 use Rattle.gateway_laws.specs.Requests.{RequestPdu}
-use Rattle.snmp_gate.specs.Beginning.{BeginsWell, IsDigestOf}
+use Rattle.snmp_gate.specs.Beginning.{BeginsWell, IsOfDatagram}
 use Rattle.snmp_gate.specs.Groups.{Group, IsJoined, begun, group_of, groups_of}
 use Rattle.snmp_gate.specs.History.{Happening, IsAccepted, accepted, asked, number_of, told_in}
 use Rattle.snmp_gate.specs.Lawful.{IsSetRequest, WasAsked}
@@ -65,7 +65,7 @@ open_asks tables devices before next gs n stands is =
 -- ---- a message that joins
 
 module _ (tables : Tables) (devices : List Device) (before : List Happening) (next : ℕ) (rs : Requests) (place most : ℕ) (r : WaitingRequest WaitingMessage Work) (m : WaitingMessage) (new : Gs) (since now : ℕ) (v : List ℕ) (old sets : List RememberedSet)
-    (within : place < length rs) (is : r ≡ slice_index_or rs place r) (group : GroupStands tables devices before (group_of r)) (asks : question_in r.first ≡ question_in m) (joins : IsJoined most (groups_of rs) place m new Joined) (digest : IsDigestOf m v)
+    (within : place < length rs) (is : r ≡ slice_index_or rs place r) (group : GroupStands tables devices before (group_of r)) (asks : question_in r.first ≡ question_in m) (joins : IsJoined most (groups_of rs) place m new Joined) (digest : IsOfDatagram m v)
     (later : since ≤ now) (noted : IsNotedAgain now m.digest old sets New) (stands : GroupsStand tables devices before next (groups_of rs)) (known : SetsStand since before (groups_of rs) old) where
   joined_were : WereSets (groups_of rs) new
   joined_were = all_joined (λ (g : Group WaitingMessage Work). AsksSet g.work → IsOpenSet (groups_of rs) g.number) most (groups_of rs) new place m Joined joins (λ g at room it. it) (were_sets (groups_of rs))
@@ -128,7 +128,7 @@ module _ (tables : Tables) (devices : List Device) (before : List Happening) (ne
       (λ n other out. goes_before (accepted r.number now v m) before (groups_of rs) new n (was_old n) (λ at w x same. other (sym (ap number_of same))) joined_were out)
       (λ at w x there out. own_before out)
       (keeps_noted_again now m.digest old sets New noted)
-      (λ out. fresh_new now (sha256 v) old sets (subst (λ (d : Option (List ℕ)). IsNotedAgain now d old sets New) (digest group.question asked_m (tag_of out)) noted))
+      (λ out. fresh_new now (sha256 v) old sets (subst (λ (d : Option (List ℕ)). IsNotedAgain now d old sets New) (digest.set group.question asked_m (tag_of out)) noted))
 
 -- ---- a message that begins a request
 
@@ -150,7 +150,7 @@ keeps_noted_for now w digest mid sets noted.Before is = keeps_kept now mid sets 
 keeps_noted_for now w digest mid sets noted.NoRoom is = keeps_kept now mid sets (inr is.2.2)
 
 module _ (tables : Tables) (devices : List Device) (before : List Happening) (next : ℕ) (gs new : Gs) (m : WaitingMessage) (q : Question) (w : Work) (since now : ℕ) (v : List ℕ) (old mid sets : List RememberedSet) (n : Noted) (asks : question_in m ≡ Some q)
-    (well : BeginsWell tables devices q w) (digest : IsDigestOf m v) (later : since ≤ now) (isnt : n ≢ noted.Before) (fits : n ≢ noted.NoRoom) (first : KeepsSets now old mid) (noted_is : IsNotedFor now m.digest w mid sets n) (new_is : new ≡ gs ++ begun next m w ∷ [])
+    (well : BeginsWell tables devices q w) (digest : IsOfDatagram m v) (later : since ≤ now) (isnt : n ≢ noted.Before) (fits : n ≢ noted.NoRoom) (first : KeepsSets now old mid) (noted_is : IsNotedFor now m.digest w mid sets n) (new_is : new ≡ gs ++ begun next m w ∷ [])
     (stands : GroupsStand tables devices before next gs) (known : SetsStand since before gs old) where
   begun_was : (k : ℕ) → WasAsked (accepted next now v m ∷ before) k → WasAsked before k
   begun_was k = was_before (accepted next now v m) before k (λ d id what x same. let wrong : accepted next now v m ≡ asked k d id what x = same in cc)
@@ -181,7 +181,7 @@ module _ (tables : Tables) (devices : List Device) (before : List Happening) (ne
     | inl both ↦ let was = begun_was next both.0 in absurd (never_next (asked next was.device was.id was.request was.datagram) was.there refl)
     | inr (g, there, number, set) ↦
         let own = begun_set g there number set in
-        let fresh = noted_fresh now v [] w m.digest mid sets n isnt fits noted_is own (digest q asks (task_asks tables devices q w well own)) in record {
+        let fresh = noted_fresh now v [] w m.digest mid sets n isnt fits noted_is own (digest.set q asks (task_asks tables devices q w well own)) in record {
           unknown = subst (IsUnknown (sha256 v)) (lasting_same now old mid first) fresh.unknown;
           kept = fresh.kept;
         }

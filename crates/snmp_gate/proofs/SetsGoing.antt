@@ -1,10 +1,10 @@
 -- Which Sets go out, as the requests change.
-use Rattle.std.specs.Prelude.{◌≡◌, ◌≢◌, ◌∷◌, ◌/◌, ◌<◌, ◌≤◌, ℕ, List, All, Contains, Option, Some, None, length, slice_index_or, slice_set}
+use Rattle.std.specs.Prelude.{◌≡◌, ◌≢◌, ◌∷◌, [], ◌/◌, ◌<◌, ◌≤◌, ℕ, List, All, Contains, IfSome, Option, Some, None, length, slice_index_or, slice_set}
 use Rattle.std.specs.Global.{Vec}
 use Rattle.std.specs.List.{HoldsAt}
 use Rattle.std.proofs.Common.{refl, sym, ap, subst, ◌∙◌, inl, inr, arith}
 use Rattle.std.proofs.lemmas.Bool.Decides.{eqb_tells}
-use Rattle.std.proofs.lemmas.List.Elements.{All-contains, All-set, Contains-get_or}
+use Rattle.std.proofs.lemmas.List.Elements.{All-contains, All-set, Contains-append_left, Contains-get_or, Contains-push}
 use Rattle.snmp_message.specs.declared.refusal.Refusal.{Refusal}
 use Rattle.snmp_msg.specs.Pdu.{PduParts}
 use Rattle.snmp_msg.specs.PduTypes.{pdu_tag}
@@ -15,15 +15,16 @@ use Rattle.snmp_walk.specs.declared.operation.ReadOperation.TheVariants.{Get, Ge
 use Rattle.gateway_laws.specs.Requests.{RequestPdu}
 use Rattle.snmp_gate.specs.Said.{Said}
 use Rattle.snmp_gate.specs.Groups.{Group, IsAnswered, IsAt, IsWorked, group_of, groups_of}
-use Rattle.snmp_gate.specs.History.{Happening, accepted, answered, asked, given_up, open_ask, sent, told_in, unanswered}
+use Rattle.snmp_gate.specs.History.{Happening, IsToldAgain, WasTold, accepted, answered, asked, given_up, open_ask, sent, told_in, unanswered}
+use Rattle.snmp_gate.specs.Limits.{IsShortFor, IsShortReplyFor}
 use Rattle.snmp_gate.specs.Lawful.{IsOnce, IsSetRequest, WasAsked}
 use Rattle.snmp_gate.specs.Messages.{question_in}
 use Rattle.snmp_gate.specs.Noting.{AsksSet, IsToldOf}
 use Rattle.snmp_gate.specs.Question.{Question}
-use Rattle.snmp_gate.specs.Sending.{IsAskedAt, IsOpenAt, IsSentBy, IsUnasked, RepliesTo, Requests, SetsAsked}
+use Rattle.snmp_gate.specs.Sending.{IsAskedAt, IsOpenAt, IsSentBy, IsUnasked, RepliesTo, Requests, SetsAsked, again_in}
 use Rattle.snmp_gate.specs.Taking.{WorkSaysSame}
-use Rattle.snmp_gate.specs.Waiting.{AsksStand, Fresh, GateStands, GoesOut, GroupStands, GroupsStand, OpenStands, SendHappens, SetsStand, WorkStands, answering_at, asks_in}
-use Rattle.snmp_gate.specs.Work.{TaskStands, request_of_task}
+use Rattle.snmp_gate.specs.Waiting.{AsksStand, Fresh, GateStands, GoesOut, GroupStands, GroupsStand, OpenStands, OutcomesStand, SendHappens, SetsStand, WorkStands, answering_at, asks_in}
+use Rattle.snmp_gate.specs.Work.{IsToldFirst, TaskStands, request_of_task}
 use Rattle.snmp_gate.specs.declared.asks.DeviceAsks.{DeviceAsks}
 use Rattle.snmp_gate.specs.declared.devices.Device.{Device}
 use Rattle.snmp_gate.specs.declared.devices.Devices.{Devices}
@@ -42,15 +43,19 @@ use Rattle.snmp_gate.specs.declared.task.Task.TheVariants as task
 use Rattle.snmp_gate.specs.declared.waiting_message.WaitingMessage.{WaitingMessage}
 use Rattle.snmp_gate.specs.declared.work.OpenRequest.{OpenRequest}
 use Rattle.snmp_gate.specs.declared.work.RequestEnd.{RequestEnd}
+use Rattle.snmp_gate.specs.declared.work.RequestEnd.TheVariants as ending
 use Rattle.snmp_gate.specs.declared.work.Work.{Work}
 use Rattle.snmp_gate.specs.declared.work.Work.TheVariants.{Open, Ends}
+use Rattle.snmp_gate.specs.Beginning.{MayBeJoined}
+use Rattle.snmp_gate.proofs.Asked.{none_is_some}
 use Rattle.snmp_gate.proofs.AsksKept.{asks_same}
 use Rattle.snmp_gate.proofs.Endings.{one_open}
 use Rattle.snmp_gate.proofs.GroupSteps.{group_at, groups_set}
-use Rattle.snmp_gate.specs.Replies.{answer_with}
-use Rattle.snmp_gate.proofs.Histories.{IsLeftAfter, IsReplyWith, group_in, moved, sent_all, unanswered_all}
+use Rattle.snmp_gate.specs.Replies.{answer_with, says_of}
+use Rattle.snmp_gate.proofs.Histories.{IsLeftAfter, IsReplyWith, first_of, group_in, moved, sent_all, unanswered_all}
 use Rattle.snmp_gate.proofs.Others.{contains_cons, was_before, was_other}
 use Rattle.snmp_gate.proofs.Questions.{all_answered, all_worked, at_place}
+use Rattle.snmp_gate.proofs.Repeating.{WereAgain, again_answered, again_same, again_set, again_worked, from_kept, from_said, not_again, outcomes_kept, outcomes_other, sent_told}
 use Rattle.snmp_gate.proofs.Same.{all_stand_same, work_set_same}
 use Rattle.snmp_gate.proofs.SetsKept.{IsOpenSet, KeepsKnown, WereSets, goes_before, keeps_same, keeps_told, set_request_before, sets_step, were_sets}
 
@@ -107,6 +112,9 @@ kept_stands now old new place r w agent devices asks sets next items within is s
           (sets_step since now before before (groups_of rs) (groups_of (slice_set rs place s)) old.sets.sets.items new.sets.sets.items later (λ n at v m there. there)
           (λ n out. goes_on before (groups_of rs) (groups_of (slice_set rs place s)) n (set_were rs place r s within is refl (work_set_same r.work w same)) out)
           (keeps_same now old.sets.sets.items new.sets.sets.items (ap (λ (x : RememberedSets). x.sets.items) sets)) stands.sets);
+      outcomes = subst (λ (gs : Gs). OutcomesStand before gs new.sets.sets.items) (sym groups)
+          (outcomes_kept before (groups_of rs) (groups_of (slice_set rs place s)) old.sets.sets.items new.sets.sets.items (from_kept before now old.sets.sets.items new.sets.sets.items (inl (ap (λ (x : RememberedSets). x.sets.items) sets)))
+          (again_set rs place r s within is (again_same r.work w (groups_of rs) r.number (r.first ∷ r.others.items) same)) stands.outcomes);
     }
 
 -- ---- a message that is answered
@@ -119,69 +127,87 @@ answered_were gs new place m answer = all_answered (λ (g : Group WaitingMessage
 record LeavesIt (old : Gate) (since now : ℕ) (before : List Happening) (e : Happening) (m : WaitingMessage) (place : ℕ) (new : Gate) : Type 0 where
   pub asks : AsksStand (e ∷ before) (asks_in new.asks.items)
   pub sets : SetsStand now (e ∷ before) (groups_of new.requests.list.items) new.sets.sets.items
+  pub outcomes : OutcomesStand (e ∷ before) (groups_of new.requests.list.items) new.sets.sets.items
 
 leaves : (old new : Gate) (since now : ℕ) (before : List Happening) (e : Happening) (m : WaitingMessage) (said : Option ResponseStatus) (place : ℕ) → since ≤ now → ((k : ℕ) → open_ask k (e ∷ before) ≡ open_ask k before)
     → ((n at : ℕ) (w : List ℕ) (x : WaitingMessage) → e ≢ accepted n at w x) → ((n : ℕ) → WasAsked (e ∷ before) n → WasAsked before n) → IsAnswered (groups_of old.requests.list.items) place m (groups_of new.requests.list.items)
-    → new.asks ≡ old.asks → IsToldOf m said old.sets.sets.items new.sets.sets.items → GateStands since before old → LeavesIt old since now before e m place new
-leaves old new since now before e m said place later same isnt was answer asks told stands = record {
+    → new.asks ≡ old.asks → IsToldOf m said old.sets.sets.items new.sets.sets.items → ((d : List ℕ) (says : ResponseStatus) → m.digest ≡ Some d → said ≡ Some says → WasTold (e ∷ before) d says) → GateStands since before old → LeavesIt old since now before e m place new
+leaves old new since now before e m said place later same isnt was answer asks told tells stands = record {
+  outcomes = outcomes_other e before (groups_of old.requests.list.items) (groups_of new.requests.list.items) old.sets.sets.items new.sets.sets.items isnt
+      (from_said (e ∷ before) m said old.sets.sets.items new.sets.sets.items told tells) (again_answered (groups_of old.requests.list.items) (groups_of new.requests.list.items) place m answer) stands.outcomes;
   asks = asks_same e before (asks_in new.asks.items) same (subst (λ (v : Vec DeviceAsks). AsksStand before (asks_in v.items)) (sym asks) stands.asks);
   sets = sets_other since now e before (groups_of old.requests.list.items) (groups_of new.requests.list.items) old.sets.sets.items new.sets.sets.items later isnt was
       (answered_were (groups_of old.requests.list.items) (groups_of new.requests.list.items) place m answer) (keeps_told now m said old.sets.sets.items new.sets.sets.items told) stands.sets;
 }
 
-pub unanswered_happens : (old new : Gate) (since now : ℕ) (before : List Happening) (place : ℕ) (f : Fresh) (r : WaitingRequest WaitingMessage Work) (m : WaitingMessage) (said : Option ResponseStatus) (why : Option Refusal) → since ≤ now
-    → place < length old.requests.list.items → r ≡ slice_index_or old.requests.list.items place r → IsLeftAfter old place m new → new.asks ≡ old.asks → IsToldOf m said old.sets.sets.items new.sets.sets.items → GateStands since before old
+pub unanswered_happens : (old new : Gate) (since now : ℕ) (before : List Happening) (place : ℕ) (f : Fresh) (r : WaitingRequest WaitingMessage Work) (m : WaitingMessage) (why : Option Refusal) → since ≤ now
+    → place < length old.requests.list.items → r ≡ slice_index_or old.requests.list.items place r → IsLeftAfter old place m new → new.asks ≡ old.asks → IsToldOf m None old.sets.sets.items new.sets.sets.items → GateStands since before old
     → SendHappens old now before f (out.Unanswered r.number why) new
-unanswered_happens old new since now before place f r m said why later within is left asks told stands =
+unanswered_happens old new since now before place f r m why later within is left asks told stands =
     let e = unanswered r.number m in
     let ends = unanswered_all old new before place r m within is left stands.requests in
-    let rest = leaves old new since now before e m said place later (λ k. refl) (λ n at w x same. let wrong : unanswered r.number m ≡ accepted n at w x = same in cc)
-    (λ n. was_before e before n (λ d id what w same. let wrong : unanswered r.number m ≡ asked n d id what w = same in cc)) left.answer asks told stands in (
+    let rest = leaves old new since now before e m None place later (λ k. refl) (λ n at w x same. let wrong : unanswered r.number m ≡ accepted n at w x = same in cc)
+    (λ n. was_before e before n (λ d id what w same. let wrong : unanswered r.number m ≡ asked n d id what w = same in cc)) left.answer asks told (λ d says own is. absurd (none_is_some says is)) stands in (
       m,
       record {
         lawful = record { mediated = ends.mediated; in_turn = ends.in_turn; own_id = tt; once = tt };
-        tried = tt;
-        stands = record { requests = ends.requests; asks = rest.asks; sets = rest.sets };
+        allowed = tt;
+        stands = record { requests = ends.requests; asks = rest.asks; sets = rest.sets; outcomes = rest.outcomes };
       },
     )
 
+-- what the Response says again was said before
+may_tell : (old : Gate) (before : List Happening) (place : ℕ) (r : WaitingRequest WaitingMessage Work) (m : WaitingMessage) → place < length old.requests.list.items → r ≡ slice_index_or old.requests.list.items place r → r.first ≡ m
+    → OutcomesStand before (groups_of old.requests.list.items) old.sets.sets.items → (w : Work) → r.work ≡ w → IfSome (again_in w) (IsToldAgain before r.number m)
+may_tell old before place r m within is first stands (Ends (ending.Repeated says)) ends =
+    let there = at_contains (groups_of old.requests.list.items) place (group_of r) (group_at old.requests.list.items place r within is) in
+    stands.again (group_of r) says m there ends (subst (Contains (r.first ∷ r.others.items)) first (Contains-append_left (r.first ∷ []) r.others.items r.first (Contains-push [] r.first)))
+may_tell old before place r m within is first stands (Ends (ending.Own says)) ends = tt
+may_tell old before place r m within is first stands (Ends (ending.Columns whole)) ends = tt
+may_tell old before place r m within is first stands (Ends (ending.Front d)) ends = tt
+may_tell old before place r m within is first stands (Ends (ending.Unhandled why)) ends = tt
+may_tell old before place r m within is first stands (Ends ending.Silent) ends = tt
+may_tell old before place r m within is first stands (Open o) ends = tt
+
 -- a client is sent this
-answer_happens : (old new : Gate) (since now : ℕ) (before : List Happening) (place : ℕ) (f : Fresh) (r : WaitingRequest WaitingMessage Work) (m : WaitingMessage) (said : Option ResponseStatus) (client : Vec ℕ) (replied : Reply) (says : Option ResponseStatus) (datagram : Vec ℕ) → since ≤ now
+answer_happens : (old new : Gate) (since now : ℕ) (before : List Happening) (place : ℕ) (f : Fresh) (r : WaitingRequest WaitingMessage Work) (m : WaitingMessage) (client : Vec ℕ) (replied : Reply) (says : Option ResponseStatus) (datagram : Vec ℕ) → since ≤ now
     → place < length old.requests.list.items → r ≡ slice_index_or old.requests.list.items place r → IsLeftAfter old place m new → client ≡ m.client → IsReplyWith replied (answer_with says datagram)
     → ((q : Question) (told : Said) → question_in r.first ≡ Some q → RepliesTo old.agent (now / 1000) f.salt q told r.first.kept r.work replied)
-    → new.asks ≡ old.asks → IsToldOf m said old.sets.sets.items new.sets.sets.items → GateStands since before old → SendHappens old now before f (out.ToClient r.number client says datagram) new
-answer_happens old new since now before place f r m said client replied says datagram later within is left from with_this replies asks told stands =
+    → new.asks ≡ old.asks → IsToldOf m says old.sets.sets.items new.sets.sets.items → IsShortFor old.limits r.first datagram.items → GateStands since before old → SendHappens old now before f (out.ToClient r.number client says datagram) new
+answer_happens old new since now before place f r m client replied says datagram later within is left from with_this replies asks told short stands =
     let by = answering_at old now f.salt in
     let answer = answer_with says datagram in
     let e = sent r.number m by answer in
-    let ends = sent_all old new before place (now / 1000) f.salt r m replied answer within is left with_this replies stands.requests in
-    let rest = leaves old new since now before e m said place later (λ k. refl) (λ n at w x same. let wrong : sent r.number m by answer ≡ accepted n at w x = same in cc)
-    (λ n. was_before e before n (λ d id what w same. let wrong : sent r.number m by answer ≡ asked n d id what w = same in cc)) left.answer asks told stands in (
+    let ends = sent_all old new before place (now / 1000) f.salt r m replied answer within is left with_this replies (may_tell old before place r m within is (first_of old new before place r m within is left stands.requests) stands.outcomes r.work refl) stands.requests in
+    let came = ends.mediated.0 in
+    let rest = leaves old new since now before e m says place later (λ k. refl) (λ n at w x same. let wrong : sent r.number m by answer ≡ accepted n at w x = same in cc)
+    (λ n. was_before e before n (λ d id what w same. let wrong : sent r.number m by answer ≡ asked n d id what w = same in cc)) left.answer asks told
+    (sent_told r.number came.now came.datagram m by answer before (groups_of old.requests.list.items) old.sets.sets.items came.there stands.outcomes) stands in (
       m,
       from,
       record {
         lawful = record { mediated = ends.mediated; in_turn = ends.in_turn; own_id = tt; once = tt };
-        tried = tt;
-        stands = record { requests = ends.requests; asks = rest.asks; sets = rest.sets };
+        allowed = subst (λ (x : WaitingMessage). IsShortFor old.limits x datagram.items) (first_of old new before place r m within is left stands.requests) short;
+        stands = record { requests = ends.requests; asks = rest.asks; sets = rest.sets; outcomes = rest.outcomes };
       },
     )
 
-pub reply_happens : (old new : Gate) (since now : ℕ) (before : List Happening) (place : ℕ) (f : Fresh) (r : WaitingRequest WaitingMessage Work) (m : WaitingMessage) (said : Option ResponseStatus) (client : Vec ℕ) (replied : Reply) (output : Sent) → since ≤ now
+pub reply_happens : (old new : Gate) (since now : ℕ) (before : List Happening) (place : ℕ) (f : Fresh) (r : WaitingRequest WaitingMessage Work) (m : WaitingMessage) (client : Vec ℕ) (replied : Reply) (output : Sent) → since ≤ now
     → place < length old.requests.list.items → r ≡ slice_index_or old.requests.list.items place r → IsLeftAfter old place m new → client ≡ m.client
     → ((q : Question) (told : Said) → question_in r.first ≡ Some q → RepliesTo old.agent (now / 1000) f.salt q told r.first.kept r.work replied)
-    → IsSentBy r.number client replied output → new.asks ≡ old.asks → IsToldOf m said old.sets.sets.items new.sets.sets.items → GateStands since before old → SendHappens old now before f output new
-reply_happens old new since now before place f r m said client (reply.Responds says datagram) output later within is left from replies sends asks told stands =
+    → IsSentBy r.number client replied output → new.asks ≡ old.asks → IsToldOf m (says_of replied) old.sets.sets.items new.sets.sets.items → IsShortReplyFor old.limits r.first replied → GateStands since before old → SendHappens old now before f output new
+reply_happens old new since now before place f r m client (reply.Responds says datagram) output later within is left from replies sends asks told short stands =
     subst (λ (o : Sent). SendHappens old now before f o new) (sym sends)
-    (answer_happens old new since now before place f r m said client (reply.Responds says datagram) (Some says) datagram later within is left from refl replies asks told stands)
-reply_happens old new since now before place f r m said client (reply.Reports datagram) output later within is left from replies sends asks told stands =
+    (answer_happens old new since now before place f r m client (reply.Responds says datagram) (Some says) datagram later within is left from refl replies asks told short stands)
+reply_happens old new since now before place f r m client (reply.Reports datagram) output later within is left from replies sends asks told short stands =
     subst (λ (o : Sent). SendHappens old now before f o new) (sym sends)
-    (answer_happens old new since now before place f r m said client (reply.Reports datagram) None datagram later within is left from refl replies asks told stands)
-reply_happens old new since now before place f r m said client reply.Nothing output later within is left from replies sends asks told stands =
-    subst (λ (o : Sent). SendHappens old now before f o new) (sym sends) (unanswered_happens old new since now before place f r m said None later within is left asks told stands)
-reply_happens old new since now before place f r m said client reply.SilentDrop output later within is left from replies sends asks told stands =
-    subst (λ (o : Sent). SendHappens old now before f o new) (sym sends) (unanswered_happens old new since now before place f r m said None later within is left asks told stands)
-reply_happens old new since now before place f r m said client (reply.Refused why) output later within is left from replies sends asks told stands =
-    subst (λ (o : Sent). SendHappens old now before f o new) (sym sends) (unanswered_happens old new since now before place f r m said (Some why) later within is left asks told stands)
+    (answer_happens old new since now before place f r m client (reply.Reports datagram) None datagram later within is left from refl replies asks told short stands)
+reply_happens old new since now before place f r m client reply.Nothing output later within is left from replies sends asks told short stands =
+    subst (λ (o : Sent). SendHappens old now before f o new) (sym sends) (unanswered_happens old new since now before place f r m None later within is left asks told stands)
+reply_happens old new since now before place f r m client reply.SilentDrop output later within is left from replies sends asks told short stands =
+    subst (λ (o : Sent). SendHappens old now before f o new) (sym sends) (unanswered_happens old new since now before place f r m None later within is left asks told stands)
+reply_happens old new since now before place f r m client (reply.Refused why) output later within is left from replies sends asks told short stands =
+    subst (λ (o : Sent). SendHappens old now before f o new) (sym sends) (unanswered_happens old new since now before place f r m (Some why) later within is left asks told stands)
 
 -- ---- a request that ends
 
@@ -197,6 +223,22 @@ pub given_up_sets : (since now number device : ℕ) (before : List Happening) (g
 given_up_sets since now number device before gs new place was e sets later worked stands =
     sets_other since now (given_up number device) before gs new sets sets later (λ n at w x same. let wrong : given_up number device ≡ accepted n at w x = same in cc)
     (λ n. was_before (given_up number device) before n (λ d id what w same. let wrong : given_up number device ≡ asked n d id what w = same in cc)) (worked_were gs new place was e worked) (keeps_same now sets sets refl) stands
+
+pub ended_outcomes : (before : List Happening) (gs new : Gs) (place : ℕ) (was : Work) (e : RequestEnd) (sets : List RememberedSet) → IsToldFirst e → IsWorked gs place was (Ends e) new → OutcomesStand before gs sets → OutcomesStand before new sets
+ended_outcomes before gs new place was e sets first worked stands = outcomes_kept before gs new sets sets (from_kept before 0 sets sets (inl refl)) (again_worked gs new place was (Ends e) first worked) stands
+
+pub given_up_outcomes : (number device : ℕ) (before : List Happening) (gs new : Gs) (place : ℕ) (was : Work) (e : RequestEnd) (sets : List RememberedSet) → IsToldFirst e → IsWorked gs place was (Ends e) new → OutcomesStand before gs sets
+    → OutcomesStand (given_up number device ∷ before) new sets
+given_up_outcomes number device before gs new place was e sets first worked stands =
+    let now_up = given_up number device in
+    outcomes_other now_up before gs new sets sets (λ n at w x same. let wrong : given_up number device ≡ accepted n at w x = same in cc) (from_kept (now_up ∷ before) 0 sets sets (inl refl)) (again_worked gs new place was (Ends e) first worked) stands
+
+pub answered_outcomes : (n device : ℕ) (p : PduParts) (v : List ℕ) (before : List Happening) (rs : Requests) (place : ℕ) (r s : WaitingRequest WaitingMessage Work) (sets : List RememberedSet) → place < length rs → r ≡ slice_index_or rs place r
+    → MayBeJoined s.work → OutcomesStand before (groups_of rs) sets → OutcomesStand (answered n device p v ∷ before) (groups_of (slice_set rs place s)) sets
+answered_outcomes n device p v before rs place r s sets within is may stands =
+    let e = answered n device p v in
+    outcomes_other e before (groups_of rs) (groups_of (slice_set rs place s)) sets sets (λ k at w m same. let wrong : answered n device p v ≡ accepted k at w m = same in cc) (from_kept (e ∷ before) 0 sets sets (inl refl))
+    (again_set rs place r s within is (λ was. not_again (groups_of rs) (group_of s) may)) stands
 
 -- ---- an ask
 
@@ -262,6 +304,16 @@ module _ (tables : Tables) (devices : List Device) (before : List Happening) (ne
         | inr (g, there, is, set) ↦ inr (subst (IsOpenSet (groups_of rs)) is (All-contains (λ (x : Group WaitingMessage Work). AsksSet x.work → IsOpenSet (groups_of rs) x.number) (groups_of new) g asked_were there set))
       ])
       (keeps_same now known known refl) stood
+
+  pub asked_outcomes : (known : List RememberedSet) → OutcomesStand before (groups_of rs) known → OutcomesStand (asked number device id what v ∷ before) (groups_of new) known
+  asked_outcomes known stood =
+      let e = asked number device id what v in
+      let is = asked_open in
+      let a = sets.asked is.1.0 is.1.1 in
+      let s : WaitingRequest WaitingMessage Work = record { number = sets.request.number; first = sets.request.first; others = sets.request.others; work = sets.work } in
+      let were : WereAgain (groups_of rs) (groups_of new) = subst (λ (xs : Requests). WereAgain (groups_of rs) (groups_of xs)) (sym sets.new_is)
+      (again_set rs place sets.request s within sets.is (λ was. not_again (groups_of rs) (group_of s) (subst MayBeJoined (sym a.1) tt))) in
+      outcomes_other e before (groups_of rs) (groups_of new) known known (λ n at w m same. let wrong : asked number device id what v ≡ accepted n at w m = same in cc) (from_kept (e ∷ before) 0 known known (inl refl)) were stood
 
   -- a Set goes out once
   pub asked_once : (since : ℕ) (known : List RememberedSet) → (IsSetRequest before number → ¬ WasAsked before number) → SetsStand since before (groups_of rs) known → IsOnce before (asked number device id what v)

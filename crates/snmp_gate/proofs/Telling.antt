@@ -1,5 +1,5 @@
 -- What may be told of a request.
-use Rattle.std.specs.Prelude.{◌≡◌, ◌≢◌, ◌⊎◌, Bool, true, false, ◌∷◌, ℕ, ℤ, zero, suc, pos, List, [], All, Contains, map, take, drop, Some}
+use Rattle.std.specs.Prelude.{◌≡◌, ◌≢◌, ◌⊎◌, Bool, true, false, ◌∷◌, ℕ, ℤ, zero, suc, pos, List, [], All, Contains, map, take, drop, Option, Some}
 use Rattle.std.specs.List.{AllZip}
 use Rattle.std.proofs.Common.{refl, inl, inr, sym, ap, subst, ◌∙◌, arith}
 use Rattle.std.proofs.lemmas.Bool.{false≢true}
@@ -35,7 +35,7 @@ use Rattle.snmp_gate.specs.Messages.{question_given, seen_in}
 use Rattle.snmp_gate.specs.Question.{Question}
 use Rattle.snmp_gate.specs.ReadAsks.{read_type}
 use Rattle.snmp_gate.specs.Replies.{Answering, IsFrontSentOr, IsOwnList, IsReportedOr, IsReplyTo, IsSentOr, MayTell, MayTellBulk, Told, columns, front, set, told_with, too_big, without_error}
-use Rattle.snmp_gate.specs.Said.{AreTrue, IsSetStatus, Said}
+use Rattle.snmp_gate.specs.Said.{AreTrue, IsSetStatus, IsUnasked, Said}
 use Rattle.snmp_gate.specs.Work.{BulkStandsFor, IsOwnStatus}
 use Rattle.snmp_gate.specs.declared.reply.Reply.{Reply}
 use Rattle.snmp_gate.specs.declared.reply.Reply.TheVariants as reply
@@ -54,13 +54,13 @@ signed_tells a b = elim (true_or_false (int_eq a b)) [
 
 -- ---- the request's own bindings
 
-may_tell_too_big : (tables : Tables) (q : Question) (said : Said) → MayTell tables q said too_big
-may_tell_too_big tables q said = (λ is_set. inl refl, inr (inr (refl, refl)))
+may_tell_too_big : (tables : Tables) (q : Question) (said : Said) (again : Option ResponseStatus) → MayTell tables q said again too_big
+may_tell_too_big tables q said again = (λ is_set. inl refl, inr (inr (refl, refl)))
 
-may_tell_own : (tables : Tables) (q : Question) (said : Said) (says : ResponseStatus) (vs : List Variable) → (says.status ≡ NO_ERROR → q.tag ≡ pdu_tag SetRequest) → (q.tag ≡ pdu_tag SetRequest → IsSetStatus said says.status) → IsOwnList q says.status vs
-    → MayTell tables q said (told_with says vs)
-may_tell_own tables q said says vs own of_set (inl (is, none)) = (of_set, inr (inr (is, none)))
-may_tell_own tables q said says vs own of_set (inr (is, all)) =
+may_tell_own : (tables : Tables) (q : Question) (said : Said) (again : Option ResponseStatus) (says : ResponseStatus) (vs : List Variable) → (says.status ≡ NO_ERROR → q.tag ≡ pdu_tag SetRequest) → (q.tag ≡ pdu_tag SetRequest → IsSetStatus q said again says) → IsOwnList q says.status vs
+    → MayTell tables q said again (told_with says vs)
+may_tell_own tables q said again says vs own of_set (inl (is, none)) = (of_set, inr (inr (is, none)))
+may_tell_own tables q said again says vs own of_set (inr (is, all)) =
     elim (signed_tells says.status NO_ERROR) [
       | inl same ↦ (of_set, inl (same, set (own same) all))
       | inr other ↦ (of_set, inr (inl (other, all)))
@@ -75,17 +75,17 @@ pub no_bulk : (q : Question) → q.tag ≡ pdu_tag GetBulkRequest → q.tag ≡ 
 no_bulk q tag is_set = omega (arith, is_set, tag)
 
 -- what is sent is what may be told, or tooBig
-pub sent_reply : (a : Answering) (tables : Tables) (q : Question) (said : Said) (g : Given) (told : Told) (r : Reply) → MayTell tables q said told → IsSentOr a g told r → IsReplyTo a tables q said g r
-sent_reply a tables q said g told (reply.Responds says datagram) may (inl sent) = inl (told, sent, may)
-sent_reply a tables q said g told (reply.Responds says datagram) may (inr sent) = inl (too_big, sent, may_tell_too_big tables q said)
-sent_reply a tables q said g told (reply.Reports datagram) may sent = absurd sent
-sent_reply a tables q said g told reply.Nothing may sent = tt
-sent_reply a tables q said g told reply.SilentDrop may sent = tt
-sent_reply a tables q said g told (reply.Refused why) may sent = tt
+pub sent_reply : (a : Answering) (tables : Tables) (q : Question) (said : Said) (again : Option ResponseStatus) (g : Given) (told : Told) (r : Reply) → MayTell tables q said again told → IsSentOr a g told r → IsReplyTo a tables q said again g r
+sent_reply a tables q said again g told (reply.Responds says datagram) may (inl sent) = inl (told, sent, may)
+sent_reply a tables q said again g told (reply.Responds says datagram) may (inr sent) = inl (too_big, sent, may_tell_too_big tables q said again)
+sent_reply a tables q said again g told (reply.Reports datagram) may sent = absurd sent
+sent_reply a tables q said again g told reply.Nothing may sent = tt
+sent_reply a tables q said again g told reply.SilentDrop may sent = tt
+sent_reply a tables q said again g told (reply.Refused why) may sent = tt
 
-pub own_reply : (a : Answering) (tables : Tables) (q : Question) (said : Said) (g : Given) (says : ResponseStatus) (vs : List Variable) (r : Reply) → IsOwnStatus q said says → IsOwnList q says.status vs
-    → IsSentOr a g (told_with says vs) r → IsReplyTo a tables q said g r
-own_reply a tables q said g says vs r own list sent = sent_reply a tables q said g (told_with says vs) r (may_tell_own tables q said says vs own.no_error own.set list) sent
+pub own_reply : (a : Answering) (tables : Tables) (q : Question) (said : Said) (again : Option ResponseStatus) (g : Given) (says : ResponseStatus) (vs : List Variable) (r : Reply) → IsOwnStatus q said again says → IsOwnList q says.status vs
+    → IsSentOr a g (told_with says vs) r → IsReplyTo a tables q said again g r
+own_reply a tables q said again g says vs r own list sent = sent_reply a tables q said again g (told_with says vs) r (may_tell_own tables q said again says vs own.no_error own.set list) sent
 
 -- ---- a binding of each column
 
@@ -104,11 +104,11 @@ zip_shows Seen said o (c ∷ cs) (v ∷ vs) (b ∷ bs) same zip =
       zip_shows Seen said o cs vs bs tail zip.1,
     )
 
-pub columns_reply : (a : Answering) (tables : Tables) (q : Question) (said : Said) (g : Given) (o : ReadOperation) (cs : List Column) (bs : List Binding) (r : Reply) → q.tag ≡ pdu_tag (read_type o)
+pub columns_reply : (a : Answering) (tables : Tables) (q : Question) (said : Said) (again : Option ResponseStatus) (g : Given) (o : ReadOperation) (cs : List Column) (bs : List Binding) (r : Reply) → q.tag ≡ pdu_tag (read_type o)
     → map request cs ≡ requests_of o (variables_of q.list) → AllZip (Shows (seen_in tables q) said.variables) cs bs → AllZip IsShown cs bs
-    → ((device : Known) → IsDevice device → AreTrue device said → AllTrack device (seen_in tables q) cs) → IsSentOr a g (without_error (map variable_of bs)) r → IsReplyTo a tables q said g r
-columns_reply a tables q said g o cs bs r tag same zip shown tracks sent =
-    sent_reply a tables q said g (without_error (map variable_of bs)) r (
+    → ((device : Known) → IsDevice device → AreTrue device said → AllTrack device (seen_in tables q) cs) → IsSentOr a g (without_error (map variable_of bs)) r → IsReplyTo a tables q said again g r
+columns_reply a tables q said again g o cs bs r tag same zip shown tracks sent =
+    sent_reply a tables q said again g (without_error (map variable_of bs)) r (
       λ is_set. absurd (no_read q o tag is_set),
       inl (
         refl,
@@ -161,9 +161,9 @@ tells_bulk Seen said vs n m cs v same stand shown =
       shows = subst (λ (name : List ℕ). MayShow Seen said GetNext (last_name name (take k (given_in c))) v) (sym named.2) shown.shows;
     }
 
-pub front_reply : (a : Answering) (tables : Tables) (q : Question) (said : Said) (g : Given) (d : BulkDialogue) (bs : List Binding) (r : Reply) → BulkStandsFor tables q said d
-    → All (IsShownOf (seen_in tables q) said.variables d.columns.items) (map variable_of bs) → IsFront d.non_repeaters d.max_repetitions d.columns.items (map variable_of bs) → IsFrontSentOr a g (map variable_of bs) r → IsReplyTo a tables q said g r
-front_reply a tables q said g d bs (reply.Responds says datagram) stands all is_front (inl (n, sent)) =
+pub front_reply : (a : Answering) (tables : Tables) (q : Question) (said : Said) (again : Option ResponseStatus) (g : Given) (d : BulkDialogue) (bs : List Binding) (r : Reply) → BulkStandsFor tables q said d
+    → All (IsShownOf (seen_in tables q) said.variables d.columns.items) (map variable_of bs) → IsFront d.non_repeaters d.max_repetitions d.columns.items (map variable_of bs) → IsFrontSentOr a g (map variable_of bs) r → IsReplyTo a tables q said again g r
+front_reply a tables q said again g d bs (reply.Responds says datagram) stands all is_front (inl (n, sent)) =
     let names = column_names d.non_repeaters d.max_repetitions (variables_of q.list) d.columns.items stands.requests_are in
     let law = λ (device : Known) (plain : IsDevice device) (truly : AreTrue device said).
     bulk_take device (seen_in tables q) (map (λ (v : Variable). v.name) (variables_of q.list)) d.non_repeaters d.max_repetitions (map variable_of bs) n
@@ -175,27 +175,31 @@ front_reply a tables q said g d bs (reply.Responds says datagram) stands all is_
       sent,
       (λ is_set. absurd (no_bulk q stands.tag is_set), inl (refl, front stands.tag (All-take (MayTellBulk (seen_in tables q) said.variables (variables_of q.list)) n (map variable_of bs) (All-weaker (IsShownOf (seen_in tables q) said.variables d.columns.items) (MayTellBulk (seen_in tables q) said.variables (variables_of q.list)) may (map variable_of bs) all)) d.non_repeaters d.max_repetitions stands.first stands.most law)),
     )
-front_reply a tables q said g d bs (reply.Responds says datagram) stands all is_front (inr sent) = inl (too_big, sent, may_tell_too_big tables q said)
-front_reply a tables q said g d bs (reply.Reports datagram) stands all is_front sent = absurd sent
-front_reply a tables q said g d bs reply.Nothing stands all is_front sent = tt
-front_reply a tables q said g d bs reply.SilentDrop stands all is_front sent = tt
-front_reply a tables q said g d bs (reply.Refused why) stands all is_front sent = tt
+front_reply a tables q said again g d bs (reply.Responds says datagram) stands all is_front (inr sent) = inl (too_big, sent, may_tell_too_big tables q said again)
+front_reply a tables q said again g d bs (reply.Reports datagram) stands all is_front sent = absurd sent
+front_reply a tables q said again g d bs reply.Nothing stands all is_front sent = tt
+front_reply a tables q said again g d bs reply.SilentDrop stands all is_front sent = tt
+front_reply a tables q said again g d bs (reply.Refused why) stands all is_front sent = tt
 
-pub report_reply : (a : Answering) (tables : Tables) (q : Question) (said : Said) (g : Given) (r : Reply) → IsReportedOr a g r → IsReplyTo a tables q said g r
-report_reply a tables q said g (reply.Responds says datagram) is = absurd is
-report_reply a tables q said g (reply.Reports datagram) is = inr is
-report_reply a tables q said g reply.Nothing is = tt
-report_reply a tables q said g reply.SilentDrop is = tt
-report_reply a tables q said g (reply.Refused why) is = tt
+pub report_reply : (a : Answering) (tables : Tables) (q : Question) (said : Said) (again : Option ResponseStatus) (g : Given) (r : Reply) → IsReportedOr a g r → IsReplyTo a tables q said again g r
+report_reply a tables q said again g (reply.Responds says datagram) is = absurd is
+report_reply a tables q said again g (reply.Reports datagram) is = inr is
+report_reply a tables q said again g reply.Nothing is = tt
+report_reply a tables q said again g reply.SilentDrop is = tt
+report_reply a tables q said again g (reply.Refused why) is = tt
 
 -- genErr may be told of any request for values
-pub gen_err_told : (q : Question) (said : Said) (says : ResponseStatus) → says.status ≡ GEN_ERR → (q.tag ≡ pdu_tag SetRequest → ⊥) → IsOwnStatus q said says
-gen_err_told q said says is read = record { no_error = λ none. absurd (false≢true ((Decides-int_eq GEN_ERR NO_ERROR).1 (sym is ∙ none))); set = λ is_set. absurd (read is_set) }
+pub gen_err_told : (q : Question) (said : Said) (again : Option ResponseStatus) (says : ResponseStatus) → says.status ≡ GEN_ERR → (q.tag ≡ pdu_tag SetRequest → ⊥) → IsOwnStatus q said again says
+gen_err_told q said again says is read = record { no_error = λ none. absurd (false≢true ((Decides-int_eq GEN_ERR NO_ERROR).1 (sym is ∙ none))); set = λ is_set. absurd (read is_set) }
 
-pub unwritten : (q : Question) (said : Said) → (q.tag ≡ pdu_tag SetRequest → ⊥) → IsOwnStatus q said (record { status = pos 5; index = pos 0 })
-unwritten q said read = gen_err_told q said (record { status = pos 5; index = pos 0 }) refl read
+pub unwritten : (q : Question) (said : Said) (again : Option ResponseStatus) → (q.tag ≡ pdu_tag SetRequest → ⊥) → IsOwnStatus q said again (record { status = pos 5; index = pos 0 })
+unwritten q said again read = gen_err_told q said again (record { status = pos 5; index = pos 0 }) refl read
 
-pub of_message : (a : Answering) (tables : Tables) (q : Question) (said : Said) (g kept : Given) (client : List ℕ) (r : Reply) → g ≡ kept → (question_given client g ≡ Some q → IsReplyTo a tables q said g r)
-    → question_given client kept ≡ Some q → IsReplyTo a tables q said kept r
-of_message a tables q said g kept client r same replies asked =
-    subst (λ (x : Given). IsReplyTo a tables q said x r) same (replies (ap (question_given client) same ∙ asked))
+pub of_message : (a : Answering) (tables : Tables) (q : Question) (said : Said) (again : Option ResponseStatus) (g kept : Given) (client : List ℕ) (r : Reply) → g ≡ kept → (question_given client g ≡ Some q → IsReplyTo a tables q said again g r)
+    → question_given client kept ≡ Some q → IsReplyTo a tables q said again kept r
+of_message a tables q said again g kept client r same replies asked =
+    subst (λ (x : Given). IsReplyTo a tables q said again x r) same (replies (ap (question_given client) same ∙ asked))
+
+-- a Response may say what one said before
+pub repeated_status : (q : Question) (said : Said) (says : ResponseStatus) → (q.tag ≡ pdu_tag SetRequest) × IsUnasked said → IsOwnStatus q said (Some says) says
+repeated_status q said says stands = record { no_error = λ none. stands.0; set = λ is. inr (inl (stands.1, inr refl)) }

@@ -1,5 +1,5 @@
 -- What a client sees through a gateway of a device that answers as RFC 3416 says.
-use Rattle.std.specs.Prelude.{◌≡◌, ◌<◌, ℕ, Bool, cond, List, [], ◌∷◌, length}
+use Rattle.std.specs.Prelude.{◌≡◌, ◌<◌, ℕ, Bool, cond, List, [], ◌∷◌, IfSome, None, Option, Some, length}
 use Rattle.std.proofs.Common.{ap, arith, inl, inr, subst, sym, ◌∙◌}
 use Rattle.std.proofs.lemmas.Bool.{false≢true}
 use Rattle.std.proofs.lemmas.Bool.Decides.{Decides-int_eq, eqb_tells}
@@ -15,19 +15,20 @@ use Rattle.snmp_gate.specs.History.{Happening, accepted, answered, asked, asked_
 use Rattle.snmp_gate.specs.Lawful.{WasAsked}
 use Rattle.snmp_gate.specs.Messages.{seen_in}
 use Rattle.snmp_gate.specs.Question.{Question}
-use Rattle.snmp_gate.specs.Replies.{Answering, ClientAnswer, IsAnswerTo, MayTellValues, columns, front, set}
-use Rattle.snmp_gate.specs.Said.{AreTrue, Said}
-use Rattle.snmp_gate.specs.Through.{ShowsDevice, TellsDevice, TellsSet, bulk, reads, sets}
+use Rattle.snmp_gate.specs.Replies.{Answering, ClientAnswer, IsAnswerTo, MayTellValues, columns, front, set, status_in}
+use Rattle.snmp_gate.specs.Said.{AreTrue, Said, SaysOfSet}
+use Rattle.snmp_gate.specs.Through.{IsDoneBy, ShowsDevice, TellsDevice, TellsSet, bulk, reads, sets}
+use Rattle.snmp_gate.specs.declared.set_answer.ResponseStatus.{ResponseStatus}
 use Rattle.snmp_gate.specs.declared.set_answer.TheConstants.{NO_ERROR, TOO_BIG}
 use Rattle.snmp_gate.proofs.Others.{was_before, was_other}
 
-module _ (device : Known) (plain : IsDevice device) (tables : Tables) (q : Question) (said : Said) (truly : AreTrue device said) where
+module _ (device : Known) (plain : IsDevice device) (tables : Tables) (q : Question) (said : Said) (again : Option ResponseStatus) (truly : AreTrue device said) where
   shows : (vs : List Variable) → MayTellValues tables q said vs → ShowsDevice device (seen_in tables q) q vs
   shows vs (columns operation tag each whole) = reads operation tag (whole device plain truly)
   shows vs (front tag each non_repeaters max_repetitions first most whole) = bulk tag non_repeaters max_repetitions first most (whole device plain truly)
   shows vs (set tag own) = sets tag own
 
-  pub tells_device : (by : Answering) (g : Given) (answer : ClientAnswer) → IsAnswerTo by tables q said g answer → TellsDevice device (seen_in tables q) by q g answer
+  pub tells_device : (by : Answering) (g : Given) (answer : ClientAnswer) → IsAnswerTo by tables q said again g answer → TellsDevice device (seen_in tables q) by q g answer
   tells_device by g answer (inr report) = inl report
   tells_device by g answer (inl (told, out, (status, inl (none, may)))) = inr (told, out, λ is. shows told.variables may)
   tells_device by g answer (inl (told, out, (status, inr (inl (error, own))))) = inr (told, out, λ is. absurd (error is))
@@ -56,18 +57,39 @@ some_asked n (sent k m by w ∷ before) was = some_asked n before (was_before (s
 some_asked n (unanswered k m ∷ before) was = some_asked n before (was_before (unanswered k m) before n (λ d id what v same. let wrong : unanswered k m ≡ asked n d id what v = same in cc) was)
 some_asked n (given_up k d ∷ before) was = some_asked n before (was_before (given_up k d) before n (λ e id what v same. let wrong : given_up k d ≡ asked n e id what v = same in cc) was)
 
-tells_set : (tables : Tables) (q : Question) (said : Said) (by : Answering) (g : Given) (answer : ClientAnswer) → q.tag ≡ pdu_tag SetRequest → 0 < length said.asked → IsAnswerTo by tables q said g answer → TellsSet said by g answer
-tells_set tables q said by g answer set_is some (inr report) = inl report
-tells_set tables q said by g answer set_is some (inl (told, out, (status, variables))) = inr (
+tells_set : (tables : Tables) (q : Question) (said : Said) (again : Option ResponseStatus) (by : Answering) (g : Given) (answer : ClientAnswer) → q.tag ≡ pdu_tag SetRequest → 0 < length said.asked → IsAnswerTo by tables q said again g answer
+    → TellsSet said by g answer
+tells_set tables q said again by g answer set_is some (inr report) = inl report
+tells_set tables q said again by g answer set_is some (inl (told, out, (status, variables))) = inr (
   told,
   out,
   elim (status set_is) [
     | inl big ↦ inl big
-    | inr (inl none) ↦ absurd (omega (arith, some, ap (λ (rs : List RequestPdu). length rs) none))
+    | inr (inl none) ↦ absurd (omega (arith, some, ap (λ (rs : List RequestPdu). length rs) none.0))
     | inr (inr says) ↦ inr says
   ],
 )
 
-pub tells_of_set : (tables : Tables) (q : Question) (n : ℕ) (before : List Happening) → q.tag ≡ pdu_tag SetRequest → WasAsked before n → (by : Answering) (g : Given) (answer : ClientAnswer)
-    → IsAnswerTo by tables q (told_in n before) g answer → TellsSet (told_in n before) by g answer
-tells_of_set tables q n before set_is was by g answer is = tells_set tables q (told_in n before) by g answer set_is (some_asked n before was) is
+pub tells_of_set : (tables : Tables) (q : Question) (n : ℕ) (before : List Happening) (again : Option ResponseStatus) → q.tag ≡ pdu_tag SetRequest → WasAsked before n → (by : Answering) (g : Given) (answer : ClientAnswer)
+    → IsAnswerTo by tables q (told_in n before) again g answer → TellsSet (told_in n before) by g answer
+tells_of_set tables q n before again set_is was by g answer is = tells_set tables q (told_in n before) again by g answer set_is (some_asked n before was) is
+
+one_some : {A : Type 0} (a b : A) → Some a ≡ Some b → a ≡ b
+one_some a b is = cc
+
+none_some : {A : Type 0} (a : A) → None ≡ Some a → ⊥
+none_some a is = cc
+
+-- a Response says that a Set was done only for one of three reasons
+pub done_so : (tables : Tables) (q : Question) (said : Said) (again : Option ResponseStatus) (by : Answering) (g : Given) (answer : ClientAnswer) (says : ResponseStatus) → q.tag ≡ pdu_tag SetRequest → answer.says ≡ Some says → says.status ≡ NO_ERROR
+    → (Again : ResponseStatus → Type 0) → IfSome again Again → IsAnswerTo by tables q said again g answer → IsDoneBy q said Again says
+done_so tables q said again by g answer says set_is is done Again told_so (inr report) = absurd (none_some says (sym report.1 ∙ is))
+done_so tables q said again by g answer says set_is is done Again told_so (inl (told, out, (status, variables))) =
+    let same : status_in told ≡ says = one_some (status_in told) says (sym out.1 ∙ is) in
+    let none : told.status ≡ NO_ERROR = ap (λ (s : ResponseStatus). s.status) same ∙ done in
+    elim (status set_is) [
+      | inl big ↦ absurd (false≢true ((Decides-int_eq TOO_BIG NO_ERROR).1 (sym big ∙ none)))
+      | inr (inl (unasked, inl empty)) ↦ inl (empty none)
+      | inr (inl (unasked, inr now)) ↦ inr (inr (subst Again same (subst (λ (o : Option ResponseStatus). IfSome o Again) now told_so)))
+      | inr (inr device) ↦ inr (inl (subst (SaysOfSet said) none device))
+    ]

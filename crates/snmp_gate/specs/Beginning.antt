@@ -1,8 +1,9 @@
 -- How a request begins at a gateway.
 --
--- `BeginsWell`: what is known of a request at first. `MaySetAll`: each variable of a SetRequest may be set. `TakenIn`:
--- what a gateway is behind a message.
-use Rattle.std.specs.Prelude.{◌≡◌, ⊤, ℕ, List, ◌∷◌, All, None, Some}
+-- `BeginsWell`: what is known of a request at first. `MaySetAll`: each variable of a SetRequest may be set.
+-- `MayBeJoined`: a message may join a request. `IsKnownEnd`: what is known of a Set that came before. `TakenIn`: what a
+-- gateway is behind a message.
+use Rattle.std.specs.Prelude.{◌≡◌, ⊤, ℕ, List, ◌∷◌, All, None, Option, Some, length}
 use Rattle.sha2.specs.Sha256.{sha256}
 use Rattle.snmp_msg.specs.PduTypes.{pdu_tag}
 use Rattle.snmp_msg.specs.Variables.{Variable, variables_of}
@@ -14,13 +15,21 @@ use Rattle.snmp_gate.specs.Lawful.{IsInTurn}
 use Rattle.snmp_gate.specs.Messages.{question_in, set_in}
 use Rattle.snmp_gate.specs.Question.{Question}
 use Rattle.snmp_gate.specs.Said.{IsUnasked, Said}
+use Rattle.snmp_gate.specs.Sets.{HasDigest, lasting}
 use Rattle.snmp_gate.specs.Waiting.{GateStands}
-use Rattle.snmp_gate.specs.Work.{EndingStands, TaskStands}
+use Rattle.snmp_gate.specs.Work.{EndingStands, IsToldFirst, TaskStands}
 use Rattle.snmp_gate.specs.declared.devices.Device.{Device}
 use Rattle.snmp_gate.specs.declared.gate.ClientTaken.{ClientTaken}
 use Rattle.snmp_gate.specs.declared.gate.ClientTaken.TheVariants as client
+use Rattle.snmp_gate.specs.declared.first_work.SetBegins.{SetBegins}
+use Rattle.snmp_gate.specs.declared.first_work.SetBegins.TheVariants as begins
 use Rattle.snmp_gate.specs.declared.gate.Gate.{Gate}
+use Rattle.snmp_gate.specs.declared.onward.Onward.{Onward}
+use Rattle.snmp_gate.specs.declared.onward.Onward.TheVariants as onward
+use Rattle.snmp_gate.specs.declared.sets.RememberedSet.{RememberedSet}
 use Rattle.snmp_gate.specs.declared.waiting_message.WaitingMessage.{WaitingMessage}
+use Rattle.snmp_gate.specs.declared.work.RequestEnd.{RequestEnd}
+use Rattle.snmp_gate.specs.declared.work.RequestEnd.TheVariants as ending
 use Rattle.snmp_gate.specs.declared.work.Work.{Work}
 use Rattle.snmp_gate.specs.declared.work.Work.TheVariants.{Open, Ends}
 
@@ -36,9 +45,39 @@ MaySetAll tables q = All (λ (v : Variable). set_in tables q v.name) (variables_
 abbrev pub IsSet : Question → Type 0
 IsSet q = q.tag ≡ pdu_tag SetRequest
 
--- the message's digest is that of its datagram, if it is a Set
-abbrev pub IsDigestOf : WaitingMessage → List ℕ → Type 0
-IsDigestOf m datagram = (q : Question) → question_in m ≡ Some q → IsSet q → m.digest ≡ Some (sha256 datagram)
+-- the message's size and digest are those of its datagram, and each Set has a digest
+pub record IsOfDatagram (m : WaitingMessage) (datagram : List ℕ) : Type 0 where
+  pub size : m.size ≡ length datagram
+  pub set : (q : Question) → question_in m ≡ Some q → IsSet q → m.digest ≡ Some (sha256 datagram)
+  pub own : (digest : List ℕ) → m.digest ≡ Some digest → digest ≡ sha256 datagram
+
+-- the message may wait for the answer to this: it isn't what was told before, of another datagram
+abbrev pub MayBeJoined : Work → Type 0
+MayBeJoined (Ends e) = IsToldFirst e
+MayBeJoined (Open o) = ⊤
+
+-- if a request ends by what was told before, a Set of this digest is remembered, and that was told of it
+abbrev pub IsKnownEnd : ℕ → Option (List ℕ) → List RememberedSet → RequestEnd → Type 0
+IsKnownEnd now digest sets (ending.Repeated says) = (d : List ℕ) × (digest ≡ Some d)
+    × ((set : RememberedSet) × HasDigest d (lasting now sets) set × (set.outcome ≡ Some says))
+IsKnownEnd now digest sets _ = ⊤
+
+abbrev pub IsKnownOnward : ℕ → Option (List ℕ) → List RememberedSet → Onward → Type 0
+IsKnownOnward now digest sets (onward.Asks named) = ⊤
+IsKnownOnward now digest sets (onward.Ends e) = IsKnownEnd now digest sets e
+
+abbrev pub IsKnownBegin : ℕ → Option (List ℕ) → List RememberedSet → SetBegins → Type 0
+IsKnownBegin now digest sets (begins.Onward o) = IsKnownOnward now digest sets o
+IsKnownBegin now digest sets begins.Unknown = ⊤
+
+abbrev pub IsKnownWork : ℕ → Option (List ℕ) → List RememberedSet → Work → Type 0
+IsKnownWork now digest sets (Open o) = ⊤
+IsKnownWork now digest sets (Ends e) = IsKnownEnd now digest sets e
+
+-- the request goes on, or ends by what wasn't told before
+abbrev pub IsFirstOnward : Onward → Type 0
+IsFirstOnward (onward.Asks named) = ⊤
+IsFirstOnward (onward.Ends e) = IsToldFirst e
 
 -- the message asks the request of this number
 abbrev pub TakenFor : List Happening → ℕ → List ℕ → WaitingMessage → ℕ → Gate → Type 0

@@ -3,7 +3,7 @@
 -- `IsFailing`: a status with an error. `FailsOrGoesOn`: the answer has an error, or the request goes on. `IsEndFor`: an
 -- answer without an error ends only a SetRequest, and none is unfit for one. `EndsSet`: an answer ends a SetRequest by
 -- what it says.
-use Rattle.std.specs.Prelude.{◌≢◌, ⊤, ℕ}
+use Rattle.std.specs.Prelude.{◌≢◌, ⊤, ℕ, None}
 use Rattle.snmp_msg.specs.PduTypes.{pdu_tag}
 use Rattle.snmp_msg.specs.declared.pdu.Pdu.{Pdu}
 use Rattle.snmp_msg.specs.declared.pdu_type.PduType.TheVariants.{SetRequest}
@@ -25,7 +25,7 @@ FailsOrGoesOn (Ends says) = IsFailing says
 FailsOrGoesOn _ = ⊤
 
 abbrev pub IsEndFor : Question → Said → AnswerTaken → Type 0
-IsEndFor q told (Ends says) = IsOwnStatus q told says
+IsEndFor q told (Ends says) = IsOwnStatus q told None says
 IsEndFor q told (taken.Unfit fault) = q.tag ≢ pdu_tag SetRequest
 IsEndFor q told _ = ⊤
 

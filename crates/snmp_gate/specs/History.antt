@@ -4,10 +4,13 @@
 -- `told_in`: what devices told for a request. `open_ask`: what a device was asked for it, and didn't answer.
 -- `IsMediated`: the laws, of what happens after a history. `IsAccepted`: a message was accepted. `MayAskFor`: the law
 -- inwards, what a device may be asked. `IsAnswerOf`: whose answer it is. `IsAnswerTo` has the law outwards.
-use Rattle.std.specs.Prelude.{◌≡◌, ◌≢◌, ◌⊎◌, ◌/◌, ℕ, pos, cond, nat_eq, All, Contains, Option, Some, None, map, Ok}
+-- `IsToldAgain`: what the Response to a Set says was told of its datagram before. Moments are milliseconds.
+use Rattle.std.specs.Prelude.{◌≡◌, ◌≢◌, ◌⊎◌, ◌+◌, ◌/◌, ◌≤◌, ℕ, pos, cond, nat_eq, All, Contains, Option, Some, None}
+use Rattle.std.specs.Prelude.{IfSome, length, map, Ok}
 use Rattle.std.specs.Prelude.{List, [], ◌∷◌, ◌++◌, drop}
 use Rattle.std.specs.Global.{Vec}
 use Rattle.std.specs.List.{HoldsAt}
+use Rattle.sha2.specs.Sha256.{sha256}
 use Rattle.snmp_msg.specs.Pdu.{PduParts}
 use Rattle.snmp_msg.specs.PduTypes.{pdu_tag}
 use Rattle.snmp_msg.specs.Variables.{Variable, variables_of}
@@ -28,6 +31,8 @@ use Rattle.snmp_gate.specs.Replies.{Answering, ClientAnswer, IsAnswerTo}
 use Rattle.snmp_gate.specs.Said.{Exchange, Said, said_nothing}
 use Rattle.snmp_gate.specs.Work.{end_of, says_no_such_name}
 use Rattle.snmp_gate.specs.declared.devices.Device.{Device}
+use Rattle.snmp_gate.specs.declared.set_answer.ResponseStatus.{ResponseStatus}
+use Rattle.snmp_gate.specs.declared.sets.TheConstants.{REMEMBERED}
 use Rattle.snmp_gate.specs.declared.waiting_message.WaitingMessage.{WaitingMessage}
 
 pub data Happening : Type 0 where
@@ -162,6 +167,11 @@ pub data MayAskFor (tables : Tables) (d : Device) (q : Question) (told : Said) (
       → IsRequestFor datagram community.items id request
       → MayAskFor tables d q told id request datagram
 
+-- and the datagram has at most as many octets as the device takes
+abbrev pub IsAskFor : Tables → Device → Question → Said → ℕ → RequestPdu → List ℕ → Type 0
+IsAskFor tables d q told id request datagram =
+    MayAskFor tables d q told id request datagram × (length datagram ≤ d.max_size)
+
 -- the community by which a device is asked by a request of this type
 abbrev pub IsCommunityFor : Device → ℕ → List ℕ → Type 0
 IsCommunityFor d tag community = ((tag ≢ pdu_tag SetRequest) × (community ≡ d.community.items))
@@ -182,18 +192,52 @@ pub record IsAnswerOf (devices : List Device) (before : List Happening) (number 
   pub is_asked : AskedBy before number question
   pub is_community : HoldsAt (λ (d : Device). IsCommunityFor d question.tag community) devices device
 
+-- a datagram of this digest was accepted at this moment, for the request of this number
+pub record CameFor (before : List Happening) (digest : List ℕ) (number now : ℕ) : Type 0 where
+  pub datagram : List ℕ
+  pub message : WaitingMessage
+  pub there : Contains before (accepted number now datagram message)
+  pub digest_is : sha256 datagram ≡ digest
+
+-- its client was sent the Response to a datagram of this digest, and this was said of it
+pub record WasTold (before : List Happening) (digest : List ℕ) (says : ResponseStatus) : Type 0 where
+  pub number : ℕ
+  pub now : ℕ
+  pub datagram : List ℕ
+  pub message : WaitingMessage
+  pub came : Contains before (accepted number now datagram message)
+  pub digest_is : sha256 datagram ≡ digest
+  pub by : Answering
+  pub answer : ClientAnswer
+  pub there : Contains before (sent number message by answer)
+  pub says_is : answer.says ≡ Some says
+
+-- the message's datagram came for another request in the 301 seconds before, and this was told of it
+pub record IsToldAgain (before : List Happening) (number : ℕ) (message : WaitingMessage) (says : ResponseStatus)
+    : Type 0 where
+  pub now : ℕ
+  pub datagram : List ℕ
+  pub came : Contains before (accepted number now datagram message)
+  pub other : ℕ
+  pub another : other ≢ number
+  pub first : ℕ
+  pub came_first : CameFor before (sha256 datagram) other first
+  pub soon : now ≤ first + REMEMBERED
+  pub told : WasTold before (sha256 datagram) says
+
 -- the law of complete mediation: the agent, the devices, what happened before, and what happens
 abbrev pub IsMediated : AgentState → List Device → List Happening → Happening → Type 0
 IsMediated agent devices before (accepted number now datagram message) =
     Outcome (taker_of agent) agent.users (now / 1000) datagram (Ok message.kept)
 IsMediated agent devices before (asked number device id request datagram) = (q : Question) × AskedBy before number q
     × IsDeviceOf devices q.context device
-    × HoldsAt (λ (d : Device). MayAskFor agent.tables d q (told_in number before) id request datagram) devices device
+    × HoldsAt (λ (d : Device). IsAskFor agent.tables d q (told_in number before) id request datagram) devices device
 IsMediated agent devices before (answered number device answer datagram) =
     IsAnswerOf devices before number device answer datagram
 IsMediated agent devices before (sent number message by answer) = IsAccepted before number message
+    × ((again : Option ResponseStatus) × IfSome again (IsToldAgain before number message)
     × ((q : Question) → question_in message ≡ Some q
-    → IsAnswerTo by agent.tables q (told_in number before) message.kept answer)
+    → IsAnswerTo by agent.tables q (told_in number before) again message.kept answer))
 IsMediated agent devices before (unanswered number message) = IsAccepted before number message
 IsMediated agent devices before (given_up number device) = (q : Question) × AskedBy before number q
     × IsDeviceOf devices q.context device

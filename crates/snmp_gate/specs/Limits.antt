@@ -1,17 +1,24 @@
 -- What the history of a gateway keeps to.
 --
 -- `AtMost`: at most so many requests are of a kind. `IsAskedFor`: a device is asked for a request, and didn't answer.
--- `asks_since`: how often. `KeepsTo`: the bounds of what waits, and of what a device is asked at once. `IsTriedFew`: of
--- how often it is asked. `AlwaysKeepsTo`: each part of a history keeps to them. `WaitInTime`: no message waits for
--- long. Moments are milliseconds.
-use Rattle.std.specs.Prelude.{◌≡◌, ◌≢◌, ◌+◌, ◌*◌, ◌<◌, ◌≤◌, ⊤, ℕ, max, List, [], ◌∷◌, All}
-use Rattle.std.specs.Prelude.{cond, nat_eq}
+-- `asks_since`: how often. `KeepsTo`: the bounds of what waits, and of what a device is asked at once. `IsLimit`: how
+-- long an answer may be. `IsAllowedBy`: the bounds of how often a device is asked, and of an answer's octets.
+-- `AlwaysKeepsTo`: each part of a history keeps to them. `WaitInTime`: no message waits for long. Moments are
+-- milliseconds.
+use Rattle.std.specs.Prelude.{◌≡◌, ◌≢◌, ◌⊎◌, ◌+◌, ◌*◌, ◌<◌, ◌≤◌, ⊤, ℕ, max, List, [], ◌∷◌, All}
+use Rattle.std.specs.Prelude.{cond, false, nat_eq}
 use Rattle.std.specs.Prelude.{AllPairs, Contains, Some, length}
 use Rattle.std.specs.List.{HoldsAt}
+use Rattle.snmp_ber.specs.declared.level.Level.{Level}
+use Rattle.snmp_ber.specs.declared.level.Level.TheVariants.{NoAuthNoPriv}
+use Rattle.snmp_message.specs.declared.message.TheConstants.{LARGEST}
 use Rattle.snmp_gate.specs.History.{Happening, OpenAsk, accepted, answered, asked, given_up, open_ask}
 use Rattle.snmp_gate.specs.History.{sent, unanswered, waiting_in}
 use Rattle.snmp_gate.specs.declared.devices.Device.{Device}
 use Rattle.snmp_gate.specs.declared.limits.GateLimits.{GateLimits}
+use Rattle.snmp_gate.specs.declared.reply.Reply.{Reply}
+use Rattle.snmp_gate.specs.declared.reply.Reply.TheVariants as reply
+use Rattle.snmp_gate.specs.declared.reply.TheConstants.{SHORT_ANSWER}
 use Rattle.snmp_gate.specs.declared.waiting_message.WaitingMessage.{WaitingMessage}
 
 -- of the numbers of requests at most so many are of the kind: there are no more in any list of different ones
@@ -33,11 +40,45 @@ asks_since n (sent number message by answer ∷ before) = asks_since n before
 asks_since n (unanswered number message ∷ before) = asks_since n before
 asks_since n (given_up number device ∷ before) = asks_since n before
 
--- a device that doesn't answer is asked for a request as often as it may be, or once
-abbrev pub IsTriedFew : GateLimits → List Happening → Happening → Type 0
-IsTriedFew limits before (asked number device id request datagram) =
+-- nothing shows that the message comes from its sender, and no long answers are on
+abbrev pub MustBeShort : GateLimits → Level → Type 0
+MustBeShort limits level = (limits.long_answers ≡ false) × (level ≡ NoAuthNoPriv)
+
+-- The most octets of the answer to a message at this level, of this msgMaxSize (RFC 3412, section 6.3) and of so many
+-- octets: what its sender takes, and a datagram of UDP has; and where it must be short, SHORT_ANSWER octets, or twice
+-- the message's.
+pub record IsLimit (limits : GateLimits) (level : Level) (max_size size limit : ℕ) : Type 0 where
+  pub taken : limit ≤ max_size
+  pub datagram : limit ≤ LARGEST
+  pub short : MustBeShort limits level → limit ≤ max SHORT_ANSWER (2 * size)
+  pub is : (limit ≡ max_size) ⊎ ((limit ≡ LARGEST)
+      ⊎ (MustBeShort limits level × (limit ≡ max SHORT_ANSWER (2 * size))))
+
+-- the answer to the message has no more octets
+pub record IsShortFor (limits : GateLimits) (m : WaitingMessage) (octets : List ℕ) : Type 0 where
+  pub taken : length octets ≤ m.kept.max_size
+  pub datagram : length octets ≤ LARGEST
+  pub short : MustBeShort limits m.kept.level → length octets ≤ max SHORT_ANSWER (2 * m.size)
+
+abbrev pub IsShortReplyFor : GateLimits → WaitingMessage → Reply → Type 0
+IsShortReplyFor limits m (reply.Responds says datagram) = IsShortFor limits m datagram.items
+IsShortReplyFor limits m (reply.Reports datagram) = IsShortFor limits m datagram.items
+IsShortReplyFor limits m _ = ⊤
+
+-- what is sent has at most so many octets
+abbrev pub IsShortReply : ℕ → Reply → Type 0
+IsShortReply limit (reply.Responds says datagram) = length datagram.items ≤ limit
+IsShortReply limit (reply.Reports datagram) = length datagram.items ≤ limit
+IsShortReply limit _ = ⊤
+
+-- a device that doesn't answer is asked for a request as often as it may be, or once; an answer is as short as it must
+-- be, and the size that is kept of a message is that of its datagram
+abbrev pub IsAllowedBy : GateLimits → List Happening → Happening → Type 0
+IsAllowedBy limits before (asked number device id request datagram) =
     asks_since number before < max 1 limits.retries.tries
-IsTriedFew limits before _ = ⊤
+IsAllowedBy limits before (sent number message by answer) = IsShortFor limits message answer.datagram
+IsAllowedBy limits before (accepted number now datagram message) = message.size ≡ length datagram
+IsAllowedBy limits before _ = ⊤
 
 -- messages wait for the answers of at most as many requests as may wait, and of each request as many messages as may
 -- join, or one; each device is asked for at most as many requests at once as it may be
@@ -49,7 +90,7 @@ pub record KeepsTo (limits : GateLimits) (devices : List Device) (before : List 
 
 abbrev pub AlwaysKeepsTo : GateLimits → List Device → List Happening → Type 0
 AlwaysKeepsTo limits devices [] = ⊤
-AlwaysKeepsTo limits devices (now ∷ before) = KeepsTo limits devices (now ∷ before) × IsTriedFew limits before now
+AlwaysKeepsTo limits devices (now ∷ before) = KeepsTo limits devices (now ∷ before) × IsAllowedBy limits before now
     × AlwaysKeepsTo limits devices before
 
 -- each message that waits at this moment came less than `last`, and as long as all tries take, before

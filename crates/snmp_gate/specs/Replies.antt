@@ -118,17 +118,18 @@ pub data MayTellValues (tables : Tables) (q : Question) (said : Said) (vs : List
   -- to a SetRequest: its own
   set : q.tag ≡ pdu_tag SetRequest → vs ≡ variables_of q.list → MayTellValues tables q said vs
 
--- of a Set what its device said; and with an error the request's own bindings, or none with tooBig
-abbrev pub MayTell : Tables → Question → Said → Told → Type 0
-MayTell tables q said told = (q.tag ≡ pdu_tag SetRequest → IsSetStatus said told.status)
+-- of a Set what its device said, or what it said before; and with an error the request's own bindings, or none with
+-- tooBig
+abbrev pub MayTell : Tables → Question → Said → Option ResponseStatus → Told → Type 0
+MayTell tables q said again told = (q.tag ≡ pdu_tag SetRequest → IsSetStatus q said again (status_in told))
     × (((told.status ≡ NO_ERROR) × MayTellValues tables q said told.variables)
     ⊎ (((told.status ≢ NO_ERROR) × (told.variables ≡ variables_of q.list))
     ⊎ ((told.status ≡ TOO_BIG) × (told.variables ≡ []))))
 
--- it is a Response that may be sent, or a report
-abbrev pub IsAnswerTo : Answering → Tables → Question → Said → Given → ClientAnswer → Type 0
-IsAnswerTo a tables q said g answer =
-    ((told : Told) × IsResponse a g told answer × MayTell tables q said told)
+-- it is a Response that may be sent, or a report; of a Set the Response may say this again
+abbrev pub IsAnswerTo : Answering → Tables → Question → Said → Option ResponseStatus → Given → ClientAnswer → Type 0
+IsAnswerTo a tables q said again g answer =
+    ((told : Told) × IsResponse a g told answer × MayTell tables q said again told)
     ⊎ IsReport a g answer
 
 -- of a request's own bindings: none with tooBig
@@ -170,11 +171,17 @@ IsReportedOr a g (reply.Reports datagram) = IsReport a g (answer_with None datag
 IsReportedOr a g _ = ⊤
 
 -- what becomes of the message
-abbrev pub IsReplyTo : Answering → Tables → Question → Said → Given → Reply → Type 0
-IsReplyTo a tables q said g (reply.Responds says datagram) =
-    IsAnswerTo a tables q said g (answer_with (Some says) datagram)
-IsReplyTo a tables q said g (reply.Reports datagram) = IsAnswerTo a tables q said g (answer_with None datagram)
-IsReplyTo a tables q said g _ = ⊤
+abbrev pub IsReplyTo : Answering → Tables → Question → Said → Option ResponseStatus → Given → Reply → Type 0
+IsReplyTo a tables q said again g (reply.Responds says datagram) =
+    IsAnswerTo a tables q said again g (answer_with (Some says) datagram)
+IsReplyTo a tables q said again g (reply.Reports datagram) =
+    IsAnswerTo a tables q said again g (answer_with None datagram)
+IsReplyTo a tables q said again g _ = ⊤
+
+-- which error-status and error-index it says, if it is a Response
+abbrev pub says_of : Reply → Option ResponseStatus
+says_of (reply.Responds says datagram) = Some says
+says_of _ = None
 
 -- the agent has the same engine, users and tables
 pub record SameAgent (old new : AgentState) : Type 0 where

@@ -3,22 +3,23 @@
 -- `RepliesTo`: what becomes of a message of a request that ends. `IsSentBy`: what is sent of it. `IsOpenAt` and
 -- `IsAskedAt`: the request at a place. `MayAskAt`: a datagram that may be sent for it. `SetsAsked`: its device is
 -- asked.
-use Rattle.std.specs.Prelude.{◌≡◌, ⊤, ℕ, List, Some, None, slice_index_or, slice_set}
+use Rattle.std.specs.Prelude.{◌≡◌, ⊤, ℕ, List, Option, Some, None, slice_index_or, slice_set}
 use Rattle.std.specs.Global.{Vec}
 use Rattle.snmp_agent.specs.Agent.{AgentState}
 use Rattle.snmp_incoming.specs.Outcome.{Given}
 use Rattle.std.specs.List.{HoldsAt}
 use Rattle.vacm_core.specs.Tables.{Tables}
-use Rattle.snmp_gate.specs.History.{MayAskFor}
+use Rattle.snmp_gate.specs.History.{IsAskFor}
 use Rattle.snmp_gate.specs.Messages.{question_in}
 use Rattle.snmp_gate.specs.Question.{Question}
 use Rattle.snmp_gate.specs.Replies.{IsReplyTo}
 use Rattle.snmp_gate.specs.Said.{Said}
 use Rattle.snmp_gate.specs.Time.{once_more, times_asked}
-use Rattle.snmp_gate.specs.Work.{EndingStands, TaskStands, request_of_task}
+use Rattle.snmp_gate.specs.Work.{EndingStands, TaskStands, again_of, request_of_task}
 use Rattle.snmp_gate.specs.declared.gate.Sent.{Sent}
 use Rattle.snmp_gate.specs.declared.gate.Sent.TheVariants.{ToClient, Unanswered}
 use Rattle.snmp_gate.specs.declared.reply.Reply.{Reply}
+use Rattle.snmp_gate.specs.declared.set_answer.ResponseStatus.{ResponseStatus}
 use Rattle.snmp_gate.specs.declared.reply.Reply.TheVariants as reply
 use Rattle.snmp_gate.specs.declared.devices.Device.{Device}
 use Rattle.snmp_gate.specs.declared.requests.WaitingRequest.{WaitingRequest}
@@ -31,8 +32,13 @@ use Rattle.snmp_gate.specs.declared.work.Work.TheVariants.{Open, Ends}
 
 abbrev pub RepliesTo : AgentState → ℕ → List ℕ → Question → Said → Given → Work → Reply → Type 0
 RepliesTo agent seconds salt q said g (Ends e) r = EndingStands agent.tables q said e
-    → IsReplyTo (record { agent = agent; now = seconds; salt = salt }) agent.tables q said g r
+    → IsReplyTo (record { agent = agent; now = seconds; salt = salt }) agent.tables q said (again_of e) g r
 RepliesTo agent seconds salt q said g (Open o) r = ⊥
+
+-- what the Response to a message of this request says again
+abbrev pub again_in : Work → Option ResponseStatus
+again_in (Ends e) = again_of e
+again_in (Open o) = None
 
 abbrev pub IsSentBy : ℕ → Vec ℕ → Reply → Sent → Type 0
 IsSentBy number client (reply.Responds says datagram) sent = sent ≡ ToClient number client (Some says) datagram
@@ -63,7 +69,7 @@ IsUnasked (Ends e) = ⊥
 abbrev pub MayAskOf : Tables → List Device → ℕ → ℕ → Vec ℕ → WaitingRequest WaitingMessage Work → Type 0
 MayAskOf tables devices device id datagram r = (o : OpenRequest) (q : Question) (told : Said)
     → r.work ≡ Open o → question_in r.first ≡ Some q → TaskStands tables q told o.task.task
-    → HoldsAt (λ (d : Device). MayAskFor tables d q told id (request_of_task q o.task.task) datagram.items) devices
+    → HoldsAt (λ (d : Device). IsAskFor tables d q told id (request_of_task q o.task.task) datagram.items) devices
     device
 
 abbrev pub MayAskAt : Tables → List Device → Requests → ℕ → ℕ → ℕ → Vec ℕ → Type 0

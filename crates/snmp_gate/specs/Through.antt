@@ -2,8 +2,8 @@
 --
 -- `ShowsDevice`: the Response has what the device has that is restricted to what the message may see. `TellsDevice`: a
 -- datagram to a client is a report, or a Response with an error, or such a one. `TellsSet`: it says of a Set what
--- its device said, or tooBig.
-use Rattle.std.specs.Prelude.{◌≡◌, ◌⊎◌, ℕ, List, map}
+-- its device said, or tooBig. `IsDoneBy`: why it may say that a Set was done.
+use Rattle.std.specs.Prelude.{◌≡◌, ◌⊎◌, ℕ, List, [], map}
 use Rattle.snmp_msg.specs.PduTypes.{pdu_tag}
 use Rattle.snmp_msg.specs.Variables.{Variable, variables_of}
 use Rattle.snmp_msg.specs.declared.pdu_type.PduType.TheVariants.{GetBulkRequest, SetRequest}
@@ -18,6 +18,7 @@ use Rattle.snmp_gate.specs.Question.{Question}
 use Rattle.snmp_gate.specs.ReadAsks.{read_type}
 use Rattle.snmp_gate.specs.Replies.{Answering, ClientAnswer, IsReport, IsResponse, Told}
 use Rattle.snmp_gate.specs.Said.{Said, SaysOfSet}
+use Rattle.snmp_gate.specs.declared.set_answer.ResponseStatus.{ResponseStatus}
 use Rattle.snmp_gate.specs.declared.set_answer.TheConstants.{NO_ERROR, TOO_BIG}
 
 -- the variables of a Response: to a GetRequest and a GetNextRequest what this device has for each name, to a
@@ -39,3 +40,7 @@ TellsDevice device Seen by q g answer = IsReport by g answer
 abbrev pub TellsSet : Said → Answering → Given → ClientAnswer → Type 0
 TellsSet said by g answer = IsReport by g answer
     ⊎ ((told : Told) × IsResponse by g told answer × ((told.status ≡ TOO_BIG) ⊎ SaysOfSet said told.status))
+
+-- the Set has no bindings; or its device said that it was done; or that may be told again
+abbrev pub IsDoneBy : Question → Said → (ResponseStatus → Type 0) → ResponseStatus → Type 0
+IsDoneBy q said Again says = (variables_of q.list ≡ []) ⊎ (SaysOfSet said NO_ERROR ⊎ Again says)

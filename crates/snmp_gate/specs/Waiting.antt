@@ -20,10 +20,10 @@ use Rattle.snmp_gate.specs.Asks.{Ends, IsNextFree, Waits, ask_of}
 use Rattle.snmp_gate.specs.Bounds.{IsBounded}
 use Rattle.snmp_gate.specs.Devices.{IsDeviceOf}
 use Rattle.snmp_gate.specs.Groups.{Group, groups_of}
-use Rattle.snmp_gate.specs.History.{Happening, IsAccepted, OpenAsk, accepted, answered, asked, given_up, number_of}
-use Rattle.snmp_gate.specs.History.{open_ask, sent, told_in, unanswered, waiting_in}
+use Rattle.snmp_gate.specs.History.{CameFor, Happening, IsAccepted, IsToldAgain, OpenAsk, WasTold, accepted, answered}
+use Rattle.snmp_gate.specs.History.{asked, given_up, number_of, open_ask, sent, told_in, unanswered, waiting_in}
 use Rattle.snmp_gate.specs.Lawful.{IsLawful, IsSetRequest, ShareNoDatagram, WasAsked}
-use Rattle.snmp_gate.specs.Limits.{IsTriedFew, asks_since}
+use Rattle.snmp_gate.specs.Limits.{IsAllowedBy, asks_since}
 use Rattle.snmp_gate.specs.Messages.{question_in}
 use Rattle.snmp_gate.specs.Noting.{AsksSet}
 use Rattle.snmp_gate.specs.Question.{Question}
@@ -43,11 +43,13 @@ use Rattle.snmp_gate.specs.declared.gate.DeviceTaken.TheVariants as device
 use Rattle.snmp_gate.specs.declared.gate.Gate.{Gate}
 use Rattle.snmp_gate.specs.declared.gate.Sent.{Sent}
 use Rattle.snmp_gate.specs.declared.gate.Sent.TheVariants as out
+use Rattle.snmp_gate.specs.declared.set_answer.ResponseStatus.{ResponseStatus}
 use Rattle.snmp_gate.specs.declared.sets.RememberedSet.{RememberedSet}
 use Rattle.snmp_gate.specs.declared.sets.TheConstants.{REMEMBERED}
 use Rattle.snmp_gate.specs.declared.task.Task.TheVariants.{Set}
 use Rattle.snmp_gate.specs.declared.waiting_message.WaitingMessage.{WaitingMessage}
 use Rattle.snmp_gate.specs.declared.work.OpenRequest.{OpenRequest}
+use Rattle.snmp_gate.specs.declared.work.RequestEnd.TheVariants.{Repeated}
 use Rattle.snmp_gate.specs.declared.work.Work.{Work}
 use Rattle.snmp_gate.specs.declared.work.Work.TheVariants as work
 use Rattle.snmp_gate.specs.declared.work.Work.TheVariants.{Open}
@@ -133,11 +135,25 @@ pub record SetsStand (now : ℕ) (before : List Happening) (groups : List (Group
       → GoesOut before groups n → now ≤ at + REMEMBERED → IsKept (sha256 datagram) at sets
   pub apart : (a b : ℕ) → a ≢ b → GoesOut before groups a → GoesOut before groups b → ShareNoDatagram before a b
 
+-- what is remembered of Sets: each came when it says, and its outcome was told of it; and a request ends by what was
+-- told before only if that may be told again of each of its messages
+pub record OutcomesStand (before : List Happening) (groups : List (Group WaitingMessage Work))
+    (sets : List RememberedSet) : Type 0 where
+  pub digests : (n at : ℕ) (datagram digest : List ℕ) (m : WaitingMessage)
+      → Contains before (accepted n at datagram m) → m.digest ≡ Some digest → digest ≡ sha256 datagram
+  pub came : (set : RememberedSet) → Contains sets set
+      → (number : ℕ) × CameFor before set.digest number set.came
+  pub told : (set : RememberedSet) (says : ResponseStatus) → Contains sets set → set.outcome ≡ Some says
+      → WasTold before set.digest says
+  pub again : (g : Group WaitingMessage Work) (says : ResponseStatus) (m : WaitingMessage) → Contains groups g
+      → g.work ≡ work.Ends (Repeated says) → Contains g.messages m → IsToldAgain before g.number m says
+
 -- all that is known of a gateway at a moment: the last one at which it took or sent something
 pub record GateStands (now : ℕ) (before : List Happening) (g : Gate) : Type 0 where
   pub requests : RequestsStand before g
   pub asks : AsksStand before (asks_in g.asks.items)
   pub sets : SetsStand now before (groups_of g.requests.list.items) g.sets.sets.items
+  pub outcomes : OutcomesStand before (groups_of g.requests.list.items) g.sets.sets.items
 
 -- all is the same but the Sets that are remembered
 pub record SameButSets (old new : Gate) : Type 0 where
@@ -184,7 +200,7 @@ pub record IsAsBefore (now : ℕ) (old new : Gate) : Type 0 where
 -- what happens is lawful, and the gateway stands after it
 pub record Happens (old : Gate) (now : ℕ) (before : List Happening) (happening : Happening) (new : Gate) : Type 0 where
   pub lawful : IsLawful old.agent old.devices.list.items before happening
-  pub tried : IsTriedFew old.limits before happening
+  pub allowed : IsAllowedBy old.limits before happening
   pub stands : GateStands now (happening ∷ before) new
 
 -- a message of this client is accepted

@@ -4,7 +4,7 @@
 -- `TaskStands`: what a device is asked for a request, and what is known of it. `TaskHas`: what of it is known when the
 -- device has answered. `request_of_task`: the request. `EndingStands`: how it ends.
 -- `OnwardStands`: how it goes on.
-use Rattle.std.specs.Prelude.{◌≡◌, ◌≢◌, ◌≤◌, ⊤, ℕ, ℤ, Bool, [], All, Contains, length, true}
+use Rattle.std.specs.Prelude.{◌≡◌, ◌≢◌, ◌≤◌, ⊤, ℕ, ℤ, Bool, [], All, Contains, None, Option, Some, length, true}
 use Rattle.std.specs.Ordering.{int_eq}
 use Rattle.snmp_ber.specs.declared.number.TheConstants.{MAX_INTEGER32}
 use Rattle.snmp_msg.specs.Pdu.{pdu_of}
@@ -28,7 +28,7 @@ use Rattle.gateway_laws.specs.Tracks.{AllTrack}
 use Rattle.snmp_gate.specs.Messages.{seen_in, set_in}
 use Rattle.snmp_gate.specs.Question.{Question}
 use Rattle.snmp_gate.specs.ReadAsks.{bulk_request_by, plain_request, read_request, read_type}
-use Rattle.snmp_gate.specs.Said.{AreTrue, IsSetStatus, Said}
+use Rattle.snmp_gate.specs.Said.{AreTrue, IsSetStatus, IsUnasked, Said}
 use Rattle.snmp_gate.specs.declared.onward.Onward.{Onward}
 use Rattle.snmp_gate.specs.declared.onward.Onward.TheVariants.{Asks, Ends}
 use Rattle.snmp_gate.specs.declared.set_answer.ResponseStatus.{ResponseStatus}
@@ -111,17 +111,20 @@ request_of_task q (task.Read operation d) = read_request operation d
 request_of_task q (task.Bulk by d) = bulk_request_by by d
 request_of_task q task.Set = plain_request SetRequest (variables_of q.list)
 
--- a Response with the request's own bindings has noError only for a SetRequest, and for that what its device said
-pub record IsOwnStatus (q : Question) (told : Said) (says : ResponseStatus) : Type 0 where
+-- a Response with the request's own bindings has noError only for a SetRequest, and for that what its device said, or
+-- what it says again
+pub record IsOwnStatus (q : Question) (told : Said) (again : Option ResponseStatus) (says : ResponseStatus)
+    : Type 0 where
   pub no_error : says.status ≡ NO_ERROR → q.tag ≡ pdu_tag SetRequest
-  pub set : q.tag ≡ pdu_tag SetRequest → IsSetStatus told says.status
+  pub set : q.tag ≡ pdu_tag SetRequest → IsSetStatus q told again says
 
 -- how a request ends
 abbrev pub EndingStands : Tables → Question → Said → RequestEnd → Type 0
 EndingStands tables q told (ending.Columns whole) =
     (operation : ReadOperation) × ReadStands tables q told operation whole.dialogue
 EndingStands tables q told (ending.Front d) = BulkStandsFor tables q told d
-EndingStands tables q told (ending.Own says) = IsOwnStatus q told says
+EndingStands tables q told (ending.Own says) = IsOwnStatus q told None says
+EndingStands tables q told (ending.Repeated says) = (q.tag ≡ pdu_tag SetRequest) × IsUnasked told
 EndingStands tables q told (ending.Unhandled why) = ⊤
 EndingStands tables q told ending.Silent = ⊤
 
@@ -130,7 +133,17 @@ abbrev pub OnwardStands : Tables → Question → Said → Onward → Type 0
 OnwardStands tables q told (Asks named) = TaskStands tables q told named.task
 OnwardStands tables q told (Ends e) = EndingStands tables q told e
 
--- its device isn't asked a Set
+-- what its Response says again
+abbrev pub again_of : RequestEnd → Option ResponseStatus
+again_of (ending.Repeated says) = Some says
+again_of _ = None
+
+-- it doesn't end by what was told before
+abbrev pub IsToldFirst : RequestEnd → Type 0
+IsToldFirst (ending.Repeated says) = ⊥
+IsToldFirst _ = ⊤
+
+-- its device isn't asked a Set, and it doesn't end by what was told before
 abbrev pub AsksNoSet : Onward → Type 0
 AsksNoSet (Asks named) = named.task ≢ task.Set
-AsksNoSet (Ends e) = ⊤
+AsksNoSet (Ends e) = IsToldFirst e

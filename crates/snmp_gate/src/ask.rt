@@ -6,7 +6,7 @@ ghost use Rattle.snmp_msg.specs.Variables.{variables_of};
 ghost use Rattle.snmp_walk.specs.ObjectIds.{AllNamed, BulkAllNamed};
 ghost use Rattle.snmp_gate.specs.Question.{Question};
 ghost use Rattle.snmp_gate.specs.Messages.{question_in};
-ghost use Rattle.snmp_gate.specs.History.{MayAskFor};
+ghost use Rattle.snmp_gate.specs.History.{IsAskFor, MayAskFor};
 ghost use Rattle.snmp_gate.specs.ReadAsks.{bulk_request_by, plain_request, read_request};
 ghost use Rattle.snmp_msg.specs.declared.pdu_type.PduType.TheVariants.{SetRequest};
 ghost use Rattle.snmp_gate.specs.Work.{BulkStandsFor, ReadStands, SetStands, TaskStands, request_of_task};
@@ -121,7 +121,7 @@ pub(crate) fn ask_of(
     requires { id < REQUEST_IDS }
     ensures { IfOk result (λ asked. IfSome asked (λ v. (tables : Tables) (q : Question) (told : Said)
         → question_in message.now ≡ Some q → TaskStands tables q told named.now.task
-        → MayAskFor tables device.now q told id (request_of_task q named.now.task) v.items)) }
+        → IsAskFor tables device.now q told id (request_of_task q named.now.task) v.items)) }
 {
     match datagram_of(alloc, device, named, message, id) {
         Ok(Some(datagram)) => {

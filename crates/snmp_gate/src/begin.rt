@@ -9,7 +9,7 @@ ghost use Rattle.snmp_msg.specs.declared.pdu_type.PduType.TheVariants.{GetBulkRe
 ghost use Rattle.snmp_gate.specs.Question.{Question};
 ghost use Rattle.snmp_gate.specs.Messages.{IsPduOf, IsViewerOf};
 ghost use Rattle.snmp_gate.specs.ReadAsks.{read_type};
-ghost use Rattle.snmp_gate.specs.Work.{EndingStands, OnwardStands};
+ghost use Rattle.snmp_gate.specs.Work.{AsksNoSet, EndingStands, IsToldFirst, OnwardStands};
 ghost use Rattle.snmp_gate.specs.Said.{IsUnasked, Said};
 
 use crate::limits::GateLimits;
@@ -27,8 +27,9 @@ use vacm_core::ViewType;
 
 /// Returns how a request ends that isn't asked of its device.
 pub(crate) fn ending_of(refusal: AccessRefusal) -> RequestEnd
-    ensures { (tables : Tables) (q : Question) (told : Said) → IsUnasked told
+    ensures stands { (tables : Tables) (q : Question) (told : Said) → IsUnasked told
         → EndingStands tables q told result }
+    ensures first { IsToldFirst result }
 {
     match refusal {
         AccessRefusal::AuthorizationError => RequestEnd::Own(ResponseStatus {
@@ -49,7 +50,8 @@ const MOST_VARIABLES: usize = 256;
 
 /// Returns how a request ends that asks for more variables: by tooBig (RFC 3416, section 4.2.1).
 fn asks_too_much() -> RequestEnd
-    ensures { (tables : Tables) (q : Question) (told : Said) → EndingStands tables q told result }
+    ensures stands { (tables : Tables) (q : Question) (told : Said) → EndingStands tables q told result }
+    ensures first { IsToldFirst result }
 {
     RequestEnd::Own(ResponseStatus {
         status: TOO_BIG,
@@ -65,9 +67,10 @@ fn begin_read(
     pdu: &Pdu<'_>,
     limits: &GateLimits,
 ) -> Result<Onward, AllocError>
-    ensures { IfOk result (λ onward. (tables : Tables) (q : Question) (told : Said)
+    ensures stands { IfOk result (λ onward. (tables : Tables) (q : Question) (told : Said)
         → IsViewerOf tables q viewer.now → IsPduOf q pdu.now → q.tag ≡ pdu_tag (read_type operation)
         → OnwardStands tables q told onward) }
+    ensures first { IfOk result AsksNoSet }
 {
     let dialogue = Dialogue::new(alloc, viewer, operation, pdu, limits.rounds)?;
     Ok(read_on(operation, dialogue, viewer))
@@ -81,9 +84,10 @@ fn begin_bulk(
     limits: &BulkLimits,
 ) -> Result<Onward, AllocError>
     requires { length (variables_of pdu.now.list.now) ≤ MAX_INTEGER32 }
-    ensures { IfOk result (λ onward. (tables : Tables) (q : Question) (told : Said)
+    ensures stands { IfOk result (λ onward. (tables : Tables) (q : Question) (told : Said)
         → IsViewerOf tables q viewer.now → IsPduOf q pdu.now → q.tag ≡ pdu_tag GetBulkRequest
         → OnwardStands tables q told onward) }
+    ensures first { IfOk result AsksNoSet }
 {
     let dialogue = BulkDialogue::new(alloc, pdu, limits)?;
     Ok(bulk_on(dialogue, viewer))
@@ -98,9 +102,10 @@ pub(crate) fn begin(
     limits: &GateLimits,
     bulk: &BulkLimits,
 ) -> Result<Onward, AllocError>
-    ensures { IfOk result (λ onward. (tables : Tables) (q : Question) (told : Said)
+    ensures stands { IfOk result (λ onward. (tables : Tables) (q : Question) (told : Said)
         → IsUnasked told → IsViewerOf tables q viewer.now → IsPduOf q pdu.now
         → OnwardStands tables q told onward) }
+    ensures first { IfOk result AsksNoSet }
 {
     let answers = answers_of(alloc, viewer, ViewType::Read, pdu)?;
     if let Some(refusal) = access_refusal(&answers, pdu.tag) {

@@ -1,16 +1,17 @@
 //! What is done first for a request.
 
-ghost use Rattle.std.specs.Prelude.{◌≡◌, ◌<◌, ℕ, List, Some, None, length, IfOk, IfSome};
+ghost use Rattle.std.specs.Prelude.{◌≡◌, ◌<◌, ℕ, List, [], Some, None, length, IfOk, IfSome};
 ghost use Rattle.snmp_incoming.specs.Answers.{given_of};
+ghost use Rattle.snmp_msg.specs.Variables.{variables_of};
 ghost use Rattle.snmp_gate.specs.Question.{Question};
 ghost use Rattle.snmp_gate.specs.Messages.{question_given, question_in};
-ghost use Rattle.snmp_gate.specs.Beginning.{BeginsWell, IsSet, MaySetAll};
+ghost use Rattle.snmp_gate.specs.Beginning.{BeginsWell, IsFirstOnward, IsKnownBegin, IsKnownWork, IsSet, MaySetAll};
 ghost use Rattle.snmp_gate.specs.Bounds.{IsNew};
 ghost use Rattle.snmp_gate.specs.SetBegins.{SetStandsSo};
 ghost use Rattle.snmp_gate.specs.Sets.{KeepsSets};
 ghost use Rattle.snmp_gate.specs.Untaken.{CameBefore};
 ghost use Rattle.snmp_gate.specs.Waiting.{SameButSets};
-ghost use Rattle.snmp_gate.specs.Work.{EndingStands, OnwardStands};
+ghost use Rattle.snmp_gate.specs.Work.{AsksNoSet, EndingStands, IsToldFirst, OnwardStands};
 ghost use Rattle.snmp_gate.specs.Said.{IsUnasked, Said};
 ghost use Rattle.vacm_core.specs.Tables.{Tables};
 
@@ -51,10 +52,12 @@ enum SetBegins {
     Unknown,
 }
 
-/// Returns the end of a request by a Response with this status, and the request's own bindings.
+/// Returns the end of a request by a Response with this status, and the request's own bindings. A Set with bindings
+/// that isn't asked has an error.
 fn own(status: i32, index: i32) -> RequestEnd
-    ensures { (tables : Tables) (q : Question) (told : Said) → IsSet q → IsUnasked told
-        → EndingStands tables q told result }
+    ensures stands { (tables : Tables) (q : Question) (told : Said) → IsSet q → IsUnasked told
+        → (status ≡ NO_ERROR → variables_of q.list ≡ []) → EndingStands tables q told result }
+    ensures first { IsToldFirst result }
 {
     RequestEnd::Own(ResponseStatus { status, index })
 }
@@ -67,8 +70,11 @@ fn set_access(
 ) -> Result<SetAccess, AllocError>
     ensures ends { IfOk result (λ access. IfSome access.refused (λ ending. (q : Question) (told : Said)
         → IsUnasked told → EndingStands tables.now q told ending)) }
+    ensures first { IfOk result (λ access. IfSome access.refused IsToldFirst) }
     ensures may { IfOk result (λ access. (access.refused ≡ None) → (q : Question)
         → question_in message.now ≡ Some q → IsSet q → MaySetAll tables.now q) }
+    ensures bindings { IfOk result (λ access. (q : Question) → question_in message.now ≡ Some q
+        → access.bindings ≡ length (variables_of q.list)) }
 {
     let taken = message.kept.taken();
     let viewer = viewer_of(tables, &taken);
@@ -100,6 +106,8 @@ impl Gate {
             → BeginsWell self.old.agent.tables self.old.devices.list.items q work)) }
         ensures fresh { IfOk result (λ begins. IfSome begins (IsNew now)) }
         ensures unknown { IfOk result (λ begins. begins ≡ None → CameBefore now message.now.digest self.old) }
+        ensures known { IfOk result (λ begins. IfSome begins
+            (IsKnownWork now message.now.digest self.old.sets.sets.items)) }
         ensures same { SameButSets self.old self.new }
         ensures sets { KeepsSets now self.old.sets.sets.items self.new.sets.sets.items }
     {
@@ -121,6 +129,8 @@ impl Gate {
             → BeginsWell self.old.agent.tables self.old.devices.list.items q work)) }
         ensures fresh { IfOk result (λ begins. IfSome begins (IsNew now)) }
         ensures unknown { IfOk result (λ begins. begins ≡ None → CameBefore now message.now.digest self.old) }
+        ensures known { IfOk result (λ begins. IfSome begins
+            (IsKnownWork now message.now.digest self.old.sets.sets.items)) }
         ensures same { SameButSets self.old self.new }
         ensures sets { KeepsSets now self.old.sets.sets.items self.new.sets.sets.items }
     {
@@ -142,9 +152,10 @@ impl Gate {
     /// Returns how a request for values begins.
     fn begin_read(&self, device: usize, taken: &Taken<'_>) -> Result<Onward, AllocError>
         requires { device < length self.now.devices.list.items }
-        ensures { IfOk result (λ onward. (client : List ℕ) (q : Question) (told : Said)
+        ensures stands { IfOk result (λ onward. (client : List ℕ) (q : Question) (told : Said)
             → IsUnasked told → question_given client (given_of taken.now) ≡ Some q
             → OnwardStands self.now.agent.tables q told onward) }
+        ensures first { IfOk result AsksNoSet }
     {
         let device = &self.devices.list[device];
         let bulk = BulkLimits {
@@ -169,6 +180,7 @@ impl Gate {
             → SetStandsSo self.old.agent.tables q begins) }
         ensures unknown { IfOk result (λ begins. begins ≡ SetBegins.Unknown
             → CameBefore now message.now.digest self.old) }
+        ensures known { IfOk result (IsKnownBegin now message.now.digest self.old.sets.sets.items) }
         ensures same { SameButSets self.old self.new }
         ensures sets { KeepsSets now self.old.sets.sets.items self.new.sets.sets.items }
     {
@@ -179,7 +191,7 @@ impl Gate {
         };
         let note = self.sets.look(now, &digest);
         let onward = match note {
-            SetNote::Repeated(Some(says)) => Onward::Ends(RequestEnd::Own(says)),
+            SetNote::Repeated(Some(says)) => Onward::Ends(RequestEnd::Repeated(says)),
             SetNote::Repeated(None) => return Ok(SetBegins::Unknown),
             SetNote::New => self.begin_new_set(now, device, message, false)?,
             SetNote::NoRoom => self.begin_new_set(now, device, message, true)?,
@@ -198,6 +210,7 @@ impl Gate {
         requires { device < length self.old.devices.list.items }
         ensures begins { IfOk result (λ onward. (q : Question) → question_in message.now ≡ Some q → IsSet q
             → (told : Said) → IsUnasked told → OnwardStands self.old.agent.tables q told onward) }
+        ensures first { IfOk result IsFirstOnward }
         ensures same { SameButSets self.old self.new }
         ensures sets { self.new.sets ≡ self.old.sets }
     {
@@ -219,7 +232,9 @@ impl Gate {
     ) -> Result<Option<RequestEnd>, AllocError>
         requires { device < length self.old.devices.list.items }
         ensures ends { IfOk result (λ refused. IfSome refused (λ ending. (q : Question) (told : Said)
-            → IsSet q → IsUnasked told → EndingStands self.old.agent.tables q told ending)) }
+            → question_in message.now ≡ Some q → IsSet q → IsUnasked told
+            → EndingStands self.old.agent.tables q told ending)) }
+        ensures first { IfOk result (λ refused. IfSome refused IsToldFirst) }
         ensures may { IfOk result (λ refused. (refused ≡ None) → (q : Question)
             → question_in message.now ≡ Some q → IsSet q → MaySetAll self.old.agent.tables q) }
         ensures same { SameButSets self.old self.new }

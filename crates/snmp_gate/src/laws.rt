@@ -1,7 +1,7 @@
 //! Laws of the gateway's pieces, over any run of steps. Each function does nothing: its contract is the law.
 
 ghost use Rattle.std.specs.Prelude.{◌≡◌, ◌⊎◌, ℕ, ◌+◌, ◌*◌, ◌^◌, ◌<◌, ◌≤◌, max, List, [], length, All, Bool, count_by};
-ghost use Rattle.std.specs.Prelude.{◌++◌, ◌∷◌, Some};
+ghost use Rattle.std.specs.Prelude.{◌++◌, ◌∷◌, Contains, Some};
 ghost use Rattle.snmp_msg.specs.Pdu.{PduParts};
 ghost use Rattle.snmp_gate.specs.declared.gate.ClientTaken.TheVariants as ClientTaken;
 ghost use Rattle.snmp_agent.specs.Agent.{AgentState};
@@ -12,13 +12,13 @@ ghost use Rattle.snmp_gate.specs.declared.asks.DeviceAsk.{DeviceAsk};
 ghost use Rattle.snmp_gate.specs.Groups.{Group};
 ghost use Rattle.snmp_gate.specs.GroupRuns.{AskOwn, AsksOneThing, GroupStep, HaveOwnNumbers, IsFew, IsGroupRun};
 ghost use Rattle.snmp_gate.specs.GroupRuns.{answered_by, taken_by, times_held};
-ghost use Rattle.snmp_gate.specs.History.{Happening, accepted, answered, sent, told_in, waiting_in};
+ghost use Rattle.snmp_gate.specs.History.{Happening, IsToldAgain, accepted, answered, sent, told_in, waiting_in};
 ghost use Rattle.snmp_gate.specs.Lawful.{AreLawful, WasAsked};
 ghost use Rattle.snmp_gate.specs.Messages.{question_in, seen_in};
 ghost use Rattle.snmp_gate.specs.Question.{Question};
 ghost use Rattle.snmp_gate.specs.Replies.{Answering, ClientAnswer};
 ghost use Rattle.snmp_gate.specs.Said.{AreTrue};
-ghost use Rattle.snmp_gate.specs.Through.{TellsDevice, TellsSet};
+ghost use Rattle.snmp_gate.specs.Through.{IsDoneBy, TellsDevice, TellsSet};
 ghost use Rattle.snmp_msg.specs.PduTypes.{pdu_tag};
 ghost use Rattle.snmp_msg.specs.declared.pdu_type.PduType.TheVariants.{SetRequest};
 ghost use Rattle.snmp_gate.specs.Runs.{Event, IsHistoryOf, IsRun, accepted_for, client_comes, ended_for};
@@ -28,12 +28,15 @@ ghost use Rattle.snmp_gate.specs.SetRuns.{AreAsTold, ComesWithin, IsSetRun, SetS
 ghost use Rattle.snmp_gate.specs.Waiting.{Fresh, GateStands};
 ghost use Rattle.snmp_gate.specs.Bounds.{IsBounded, IsTimely};
 ghost use Rattle.snmp_gate.specs.Due.{IsIdle, retries_in};
-ghost use Rattle.snmp_gate.specs.Limits.{AlwaysKeepsTo, WaitInTime};
+ghost use Rattle.snmp_gate.specs.Limits.{AlwaysKeepsTo, MustBeShort, WaitInTime};
 ghost use Rattle.snmp_gate.specs.declared.devices.Device.{Device};
 ghost use Rattle.snmp_gate.specs.declared.gate.Gate.{Gate};
 ghost use Rattle.snmp_gate.specs.declared.gate.Sent.TheVariants as Sent;
 ghost use Rattle.snmp_gate.specs.declared.limits.GateLimits.{GateLimits};
+ghost use Rattle.snmp_gate.specs.declared.reply.TheConstants.{SHORT_ANSWER};
 ghost use Rattle.snmp_gate.specs.declared.retries.Retries.{Retries};
+ghost use Rattle.snmp_gate.specs.declared.set_answer.ResponseStatus.{ResponseStatus as Says};
+ghost use Rattle.snmp_gate.specs.declared.set_answer.TheConstants.{NO_ERROR};
 ghost use Rattle.snmp_gate.specs.declared.sets.RememberedSet.{RememberedSet};
 ghost use Rattle.snmp_gate.specs.declared.sets.TheConstants.{SETS_LIMIT};
 ghost use Rattle.snmp_gate.specs.declared.timer.Due.TheVariants.{GiveUp};
@@ -101,8 +104,8 @@ pub fn each_message_is_answered_once<M: Drop, W: Drop, Q: Drop>()
         → All (IsFew most_messages) last }
 {}
 
-/// A message joins the request that asks the same, and begins one if none does: then all messages of a request ask the
-/// same (`one`), and no two requests do (`own`).
+/// If a message joins the request that asks the same, and begins one only if none does: then all messages of a request
+/// ask the same (`one`), and no two requests do (`own`).
 pub fn a_request_is_one_question<M: Drop, W: Drop, Q: Drop>()
     ensures one { (question : M → Q) (most most_messages : ℕ) (steps : List (GroupStep M W))
         (last : List (Group M W)) → IsGroupRun question most most_messages 0 [] steps last
@@ -149,15 +152,21 @@ pub fn a_client_sees_the_device()
 {}
 
 /// In a lawful history of a gateway whose device was asked a Set: the Response to it has the error-status that the
-/// device gave (RFC 3416, section 4.2.5), or tooBig. So a Response says that a Set was done only if the device said so.
-/// A Set isn't asked if it has no bindings, or if its datagram came before within 301 seconds; then the Response has
-/// what it had (`a_set_goes_out_once`).
+/// device gave (RFC 3416, section 4.2.5), or tooBig (`asked`). A Response says that a Set was done only if its device
+/// said so, or it has no bindings, or its datagram came for another request within 301 seconds before, and that was
+/// told of it (`done`).
 pub fn a_set_is_told_as_its_device_answered()
-    ensures { (agent : AgentState) (devices : List Device) (before : List Happening) (number : ℕ)
+    ensures asked { (agent : AgentState) (devices : List Device) (before : List Happening) (number : ℕ)
         (message : WaitingMessage) (by : Answering) (answer : ClientAnswer) (q : Question)
         → AreLawful agent devices (sent number message by answer ∷ before)
         → question_in message ≡ Some q → q.tag ≡ pdu_tag SetRequest → WasAsked before number
         → TellsSet (told_in number before) by message.kept answer }
+    ensures done { (agent : AgentState) (devices : List Device) (before : List Happening) (number : ℕ)
+        (message : WaitingMessage) (by : Answering) (answer : ClientAnswer) (q : Question) (says : Says)
+        → AreLawful agent devices (sent number message by answer ∷ before)
+        → question_in message ≡ Some q → q.tag ≡ pdu_tag SetRequest
+        → answer.says ≡ Some says → says.status ≡ NO_ERROR
+        → IsDoneBy q (told_in number before) (IsToldAgain before number message) says }
 {}
 
 /// In a lawful history of a gateway the messages of each request end in the order in which they came: those that were
@@ -188,4 +197,17 @@ pub fn a_gateway_keeps_to_its_limits()
         → IsBounded first → IsRun first (goes_out now f Sent.Nothing ∷ events) last
         → (history : List Happening) × IsHistoryOf first (goes_out now f Sent.Nothing ∷ events) history
         × WaitInTime first.limits now history }
+{}
+
+/// In a lawful history that keeps to a gateway's limits: nobody is sent an answer to a message without authentication
+/// that has more than 1,472 octets and more than twice the octets of the message's datagram, unless long answers are
+/// on. So a gateway sends an address that may be forged little more than it was sent from there.
+pub fn an_answer_without_authentication_is_short()
+    ensures { (agent : AgentState) (devices : List Device) (limits : GateLimits) (before : List Happening)
+        (number : ℕ) (message : WaitingMessage) (by : Answering) (answer : ClientAnswer)
+        → AreLawful agent devices (sent number message by answer ∷ before)
+        → AlwaysKeepsTo limits devices (sent number message by answer ∷ before)
+        → MustBeShort limits message.kept.level
+        → (now : ℕ) × (datagram : List ℕ) × Contains before (accepted number now datagram message)
+        × (length answer.datagram ≤ max SHORT_ANSWER (2 * length datagram)) }
 {}

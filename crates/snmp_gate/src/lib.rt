@@ -341,8 +341,9 @@ pub use gate::{ClientTaken, DeviceTaken, Gate, Sent};
 pub use laws::{
     a_client_sees_the_device, a_gateway_keeps_to_its_limits, a_gateway_mediates,
     a_request_ends_in_time, a_request_is_one_question, a_set_goes_out_once,
-    a_set_is_told_as_its_device_answered, an_answer_is_of_one_ask, each_message_is_answered_once,
-    messages_end_in_turn, what_never_came_is_in_no_history,
+    a_set_is_told_as_its_device_answered, an_answer_is_of_one_ask,
+    an_answer_without_authentication_is_short, each_message_is_answered_once, messages_end_in_turn,
+    what_never_came_is_in_no_history,
 };
 pub use limits::GateLimits;
 pub use read_ask::{UNSPECIFIED, write_read_ask};

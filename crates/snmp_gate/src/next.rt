@@ -5,7 +5,8 @@ ghost use Rattle.std.specs.Prelude.{IsTrue, OnErr};
 ghost use Rattle.snmp_gate.specs.Question.{Question};
 ghost use Rattle.snmp_gate.specs.Messages.{question_in};
 ghost use Rattle.snmp_gate.specs.History.{Happening};
-ghost use Rattle.snmp_gate.specs.Replies.{SameAgent};
+ghost use Rattle.snmp_gate.specs.Limits.{IsShortReplyFor};
+ghost use Rattle.snmp_gate.specs.Replies.{SameAgent, says_of};
 ghost use Rattle.snmp_gate.specs.Sending.{IsGivenUp, IsSentBy, RepliesTo};
 ghost use Rattle.std.specs.List.{HoldsAt};
 ghost use Rattle.snmp_gate.specs.Bounds.{AsksBounded};
@@ -124,6 +125,7 @@ fn reply_now(
     ensures sent { IfOk result (λ reply. (q : Question) (said : Said)
         → question_in request.now.first ≡ Some q
         → RepliesTo agent.old seconds salt q said request.now.first.kept request.now.work reply) }
+    ensures short { IfOk result (IsShortReplyFor limits.now request.now.first) }
     ensures same { SameAgent agent.old agent.new }
     ensures err { OnErr result (agent.new ≡ agent.old) }
 {
@@ -132,6 +134,9 @@ fn reply_now(
     };
     let message = &request.first;
     let taken = message.kept.taken();
+    // every accepted message has these, so that its answer has a limit
+    let _scoped = taken.scoped();
+    let _pdu = taken.pdu();
     let sealing = Sealing {
         seconds,
         salt,
@@ -141,11 +146,13 @@ fn reply_now(
     Ok(reply)
 }
 
-/// Returns what the Response says of a request as a whole, if it has the request's own bindings.
-fn said_of(work: &Work) -> Option<ResponseStatus> {
-    match work {
-        Work::Ends(RequestEnd::Own(says)) => Some(*says),
-        _ => None,
+/// Returns what a Response says of its request as a whole.
+fn said_by(reply: &Reply) -> Option<ResponseStatus>
+    ensures { result ≡ says_of reply.now }
+{
+    match reply {
+        Reply::Responds { says, datagram: _ } => Some(*says),
+        Reply::Reports(_) | Reply::Nothing | Reply::SilentDrop | Reply::Refused(_) => None,
     }
 }
 
@@ -260,7 +267,6 @@ impl Gate {
     {
         let request = &self.requests.list[place];
         let number = request.number;
-        let said = said_of(&request.work);
         let seconds = now / 1000;
         let reply = reply_now(
             self.alloc,
@@ -271,7 +277,7 @@ impl Gate {
             salt,
         )?;
         let message = self.requests.answer(place);
-        self.tell_set(&message, said);
+        self.tell_set(&message, said_by(&reply));
         Ok(sent_by(number, message.client, reply))
     }
 

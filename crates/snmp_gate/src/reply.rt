@@ -1,17 +1,23 @@
 //! What a message is answered.
 
-ghost use Rattle.std.specs.Prelude.{◌≡◌, ◌↔◌, ℕ, List, Some, All, map, IfOk, IsTrue, OnErr};
+ghost use Rattle.std.specs.Prelude.{◌≡◌, ◌↔◌, ◌⊎◌, ℕ, List, Some, All, map, IfOk, IsTrue, OnErr};
+ghost use Rattle.std.specs.Prelude.{Option as OptionIs};
 ghost use Rattle.snmp_ber.specs.Element.{IsTag};
 ghost use Rattle.snmp_msg.specs.Variables.{CanBeWritten, Variable, bound_variable, variable_of, variables_of};
 ghost use Rattle.snmp_message.specs.declared.refusal.Refusal.TheVariants.{TooLarge};
+ghost use Rattle.snmp_message.specs.Scoped.{Contexts, ScopedFront};
+ghost use Rattle.snmp_msg.specs.Pdu.{PduParts, PduText};
 ghost use Rattle.snmp_incoming.specs.Answers.{given_of};
+ghost use Rattle.snmp_incoming.specs.Texts.{text_of};
+ghost use Rattle.snmp_gate.specs.Limits.{IsLimit, IsShortReply};
 ghost use Rattle.snmp_gate.specs.Question.{Question};
 ghost use Rattle.snmp_gate.specs.Messages.{question_given, question_in};
 ghost use Rattle.snmp_gate.specs.Replies.{IsFrontSentOr, IsOwnList, IsReplyTo, IsReportedOr, IsSentOr};
 ghost use Rattle.snmp_gate.specs.Replies.{IsTooBigOr, SameAgent};
 ghost use Rattle.snmp_gate.specs.Replies.{answering, told_with};
-ghost use Rattle.snmp_gate.specs.Work.{BulkStandsFor, EndingStands, IsOwnStatus, ReadStands};
+ghost use Rattle.snmp_gate.specs.Work.{BulkStandsFor, EndingStands, IsOwnStatus, ReadStands, again_of};
 ghost use Rattle.snmp_gate.specs.Said.{Said};
+ghost use Rattle.snmp_gate.specs.declared.set_answer.ResponseStatus.{ResponseStatus as Says};
 ghost use Rattle.snmp_walk.specs.declared.operation.ReadOperation.{ReadOperation};
 
 use crate::limits::GateLimits;
@@ -74,7 +80,9 @@ pub(crate) struct Sealing {
 /// Returns how many octets the Response to a message has at most: as many as its sender takes (msgMaxSize), 65,507, and
 /// at noAuthNoPriv 1,472 or twice the request, so that a gateway doesn't send much more than it was sent, to an address
 /// that may be forged.
-pub(crate) fn limit_of(level: Level, max_size: u32, size: usize, limits: &GateLimits) -> usize {
+pub(crate) fn limit_of(level: Level, max_size: u32, size: usize, limits: &GateLimits) -> usize
+    ensures { IsLimit limits.now level max_size size result }
+{
     let most = LARGEST.min(usize::try_from(max_size).unwrap_or(LARGEST));
     if limits.long_answers || level != Level::NoAuthNoPriv {
         return most;
@@ -90,6 +98,8 @@ fn reply_without(
     sealing: &Sealing,
 ) -> Result<Reply, AllocError>
     ensures sent { IfOk result (IsTooBigOr (answering agent.old sealing.now) (given_of taken.now)) }
+    ensures short { IfOk result (λ reply. (c : Contexts) (p : PduParts) → ScopedFront (text_of taken.now.text) c
+        → PduText c.pdu p → IsShortReply sealing.now.limit reply) }
     ensures same { SameAgent agent.old agent.new }
     ensures err { OnErr result (agent.new ≡ agent.old) }
 {
@@ -126,6 +136,8 @@ fn reply_with<B: Spelled>(
     requires { All (λ b. B.fits b) bindings.now }
     ensures sent { IfOk result (IsSentOr (answering agent.old sealing.now) (given_of taken.now)
         (told_with says (map B.says bindings.now))) }
+    ensures short { IfOk result (λ reply. (c : Contexts) (p : PduParts) → ScopedFront (text_of taken.now.text) c
+        → PduText c.pdu p → IsShortReply sealing.now.limit reply) }
     ensures same { SameAgent agent.old agent.new }
     ensures err { OnErr result (agent.new ≡ agent.old) }
 {
@@ -146,6 +158,8 @@ fn reply_front(
     requires { All (λ b. CanBeWritten (variable_of b)) bindings.now }
     ensures sent { IfOk result (IsFrontSentOr (answering agent.old sealing.now) (given_of taken.now)
         (map variable_of bindings.now)) }
+    ensures short { IfOk result (λ reply. (c : Contexts) (p : PduParts) → ScopedFront (text_of taken.now.text) c
+        → PduText c.pdu p → IsShortReply sealing.now.limit reply) }
     ensures same { SameAgent agent.old agent.new }
     ensures err { OnErr result (agent.new ≡ agent.old) }
 {
@@ -185,9 +199,11 @@ fn reply_own(
     says: ResponseStatus,
     sealing: &Sealing,
 ) -> Result<Reply, AllocError>
-    ensures sent { IfOk result (λ reply. (client : List ℕ) (q : Question) (said : Said)
-        → question_given client (given_of taken.now) ≡ Some q → IsOwnStatus q said says
-        → IsReplyTo (answering agent.old sealing.now) agent.old.tables q said (given_of taken.now) reply) }
+    ensures sent { IfOk result (λ reply. (client : List ℕ) (q : Question) (said : Said) (again : OptionIs Says)
+        → question_given client (given_of taken.now) ≡ Some q → IsOwnStatus q said again says
+        → IsReplyTo (answering agent.old sealing.now) agent.old.tables q said again (given_of taken.now) reply) }
+    ensures short { IfOk result (λ reply. (c : Contexts) (p : PduParts) → ScopedFront (text_of taken.now.text) c
+        → PduText c.pdu p → IsShortReply sealing.now.limit reply) }
     ensures same { SameAgent agent.old agent.new }
     ensures err { OnErr result (agent.new ≡ agent.old) }
 {
@@ -195,7 +211,18 @@ fn reply_own(
     reply_with(agent, taken, says, &bindings, sealing)
 }
 
-/// Returns what becomes of a message that no application answers.
+/// Returns what becomes of a message whose report is this.
+fn report_within(report: Vec<u8>, limit: usize) -> Reply
+    ensures is { (result ≡ Reply.Nothing) ⊎ (result ≡ Reply.Reports report) }
+    ensures short { IsShortReply limit result }
+{
+    if report.len() > limit {
+        return Reply::Nothing;
+    }
+    Reply::Reports(report)
+}
+
+/// Returns what becomes of a message that no application answers. A report that is too long isn't sent.
 fn reply_unhandled(
     agent: &mut Agent,
     taken: &Taken<'_>,
@@ -203,6 +230,8 @@ fn reply_unhandled(
     sealing: &Sealing,
 ) -> Result<Reply, AllocError>
     ensures sent { IfOk result (IsReportedOr (answering agent.old sealing.now) (given_of taken.now)) }
+    ensures short { IfOk result (λ reply. (c : Contexts) (p : PduParts) → ScopedFront (text_of taken.now.text) c
+        → PduText c.pdu p → IsShortReply sealing.now.limit reply) }
     ensures same { SameAgent agent.old agent.new }
     ensures err { OnErr result (agent.new ≡ agent.old) }
 {
@@ -210,7 +239,7 @@ fn reply_unhandled(
     let _scoped = taken.scoped();
     let _pdu = taken.pdu();
     match agent.refuse(sealing.seconds, taken, why, sealing.salt) {
-        Ok(Some(report)) => Ok(Reply::Reports(report)),
+        Ok(Some(report)) => Ok(report_within(report, sealing.limit)),
         Ok(None) => Ok(Reply::Nothing),
         Err(refused) if refused.is_memory() => Err(AllocError),
         Err(refused) => Ok(Reply::Refused(refused.refusal)),
@@ -245,10 +274,12 @@ fn reply_columns(
     sealing: &Sealing,
 ) -> Result<Reply, AllocError>
     ensures sent { IfOk result (λ reply. (client : List ℕ) (q : Question) (said : Said)
-        (operation : ReadOperation)
+        (again : OptionIs Says) (operation : ReadOperation)
         → question_given client (given_of taken.now) ≡ Some q
         → ReadStands agent.old.tables q said operation whole.now.dialogue
-        → IsReplyTo (answering agent.old sealing.now) agent.old.tables q said (given_of taken.now) reply) }
+        → IsReplyTo (answering agent.old sealing.now) agent.old.tables q said again (given_of taken.now) reply) }
+    ensures short { IfOk result (λ reply. (c : Contexts) (p : PduParts) → ScopedFront (text_of taken.now.text) c
+        → PduText c.pdu p → IsShortReply sealing.now.limit reply) }
     ensures same { SameAgent agent.old agent.new }
     ensures err { OnErr result (agent.new ≡ agent.old) }
 {
@@ -267,10 +298,12 @@ fn reply_bulk(
     dialogue: &BulkDialogue,
     sealing: &Sealing,
 ) -> Result<Reply, AllocError>
-    ensures sent { IfOk result (λ reply. (client : List ℕ) (q : Question) (said : Said)
+    ensures sent { IfOk result (λ reply. (client : List ℕ) (q : Question) (said : Said) (again : OptionIs Says)
         → question_given client (given_of taken.now) ≡ Some q
         → BulkStandsFor agent.old.tables q said dialogue.now
-        → IsReplyTo (answering agent.old sealing.now) agent.old.tables q said (given_of taken.now) reply) }
+        → IsReplyTo (answering agent.old sealing.now) agent.old.tables q said again (given_of taken.now) reply) }
+    ensures short { IfOk result (λ reply. (c : Contexts) (p : PduParts) → ScopedFront (text_of taken.now.text) c
+        → PduText c.pdu p → IsShortReply sealing.now.limit reply) }
     ensures same { SameAgent agent.old agent.new }
     ensures err { OnErr result (agent.new ≡ agent.old) }
 {
@@ -292,7 +325,10 @@ pub(crate) fn reply_to(
     ensures sent { IfOk result (λ reply. (q : Question) (said : Said)
         → question_in message.now ≡ Some q
         → EndingStands agent.old.tables q said ending.now
-        → IsReplyTo (answering agent.old sealing.now) agent.old.tables q said message.now.kept reply) }
+        → IsReplyTo (answering agent.old sealing.now) agent.old.tables q said (again_of ending.now) message.now.kept
+        reply) }
+    ensures short { IfOk result (λ reply. (c : Contexts) (p : PduParts) → ScopedFront message.now.kept.text c
+        → PduText c.pdu p → IsShortReply sealing.now.limit reply) }
     ensures same { SameAgent agent.old agent.new }
     ensures err { OnErr result (agent.new ≡ agent.old) }
 {
@@ -301,6 +337,7 @@ pub(crate) fn reply_to(
         RequestEnd::Columns(whole) => reply_columns(alloc, agent, &taken, whole, sealing),
         RequestEnd::Front(dialogue) => reply_bulk(alloc, agent, &taken, dialogue, sealing),
         RequestEnd::Own(says) => reply_own(alloc, agent, &taken, *says, sealing),
+        RequestEnd::Repeated(says) => reply_own(alloc, agent, &taken, *says, sealing),
         RequestEnd::Unhandled(why) => reply_unhandled(agent, &taken, *why, sealing),
         RequestEnd::Silent => Ok(Reply::Nothing),
     }

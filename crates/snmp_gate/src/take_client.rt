@@ -1,13 +1,14 @@
 //! What comes from clients.
 
 ghost use Rattle.std.specs.Prelude.{◌≡◌, ◌↔◌, ◌<◌, ◌≤◌, ◌/◌, ℕ, List, Some, length, IfOk, IfSome, IsTrue};
-ghost use Rattle.std.specs.Prelude.{MatchOption, OnErr};
+ghost use Rattle.std.specs.Prelude.{MatchOption, OnErr, Option as OptionIs};
 ghost use Rattle.std.specs.List.{HoldsAt};
 ghost use Rattle.sha2.specs.Sha256.{sha256};
 ghost use Rattle.snmp_incoming.specs.Answers.{given_of};
 ghost use Rattle.snmp_gate.specs.Question.{Question};
 ghost use Rattle.snmp_gate.specs.Messages.{question_in};
-ghost use Rattle.snmp_gate.specs.Beginning.{BeginsWell, IsDigestOf, IsNoRefusal, IsUntaken, TakenIn};
+ghost use Rattle.snmp_gate.specs.Beginning.{BeginsWell, IsKnownOnward, IsKnownWork, IsNoRefusal, IsOfDatagram};
+ghost use Rattle.snmp_gate.specs.Beginning.{IsUntaken, MayBeJoined, TakenIn};
 ghost use Rattle.snmp_gate.specs.Bounds.{IsNew};
 ghost use Rattle.snmp_gate.specs.Devices.{IsDeviceOf};
 ghost use Rattle.snmp_gate.specs.History.{Happening};
@@ -18,6 +19,7 @@ ghost use Rattle.snmp_gate.specs.Waiting.{ClientHappens, GateStands, IsAsBefore,
 ghost use Rattle.snmp_gate.specs.Work.{OnwardStands};
 ghost use Rattle.snmp_gate.specs.Said.{IsUnasked, Said};
 ghost use Rattle.snmp_gate.specs.declared.devices.Device.{Device as DeviceIs};
+ghost use Rattle.snmp_gate.specs.declared.sets.RememberedSet.{RememberedSet};
 ghost use Rattle.vacm_core.specs.Tables.{Tables};
 
 use crate::begin::begin;
@@ -35,16 +37,27 @@ use snmp_incoming::{Kept, Taken};
 use snmp_msg::PduType;
 use std::alloc::AllocError;
 
-/// Returns the place of the request that a message asks again.
+/// Returns true if a message that asks the same may wait for this request's answer: not if that was told before, of
+/// another datagram.
+fn may_be_joined(work: &Work) -> bool
+    ensures { IsTrue result ↔ MayBeJoined work.now }
+{
+    match work {
+        Work::Ends(RequestEnd::Repeated(_)) => false,
+        Work::Ends(_) | Work::Open(_) => true,
+    }
+}
+
+/// Returns the place of the request that a message asks again, and whose answer it may wait for.
 fn place_of(
     requests: &[WaitingRequest<WaitingMessage, Work>],
     message: &WaitingMessage,
 ) -> Option<usize>
     ensures { IfSome result (λ place. (place < length requests.now)
-        × HoldsAt (λ r. question_in r.first ≡ question_in message.now) requests.now place) }
+        × HoldsAt (λ r. (question_in r.first ≡ question_in message.now) × MayBeJoined r.work) requests.now place) }
 {
     for (place, request) in requests.iter().enumerate() {
-        if request.first.asks_again(message) {
+        if may_be_joined(&request.work) && request.first.asks_again(message) {
             return Some(place);
         }
     }
@@ -57,6 +70,8 @@ pub(crate) fn work_of(device: usize, now: u64, onward: Onward) -> Work
         → ((told : Said) → IsUnasked told → OnwardStands tables q told onward) → IsDeviceOf devices q.context device
         → BeginsWell tables devices q result }
     ensures fresh { IsNew now result }
+    ensures known { (digest : OptionIs (List ℕ)) (sets : List RememberedSet) → IsKnownOnward now digest sets onward
+        → IsKnownWork now digest sets result }
 {
     match onward {
         Onward::Asks(task) => Work::Open(OpenRequest {
@@ -145,8 +160,7 @@ impl Gate {
     ) -> Result<WaitingMessage, AllocError>
         ensures is { IfOk result (λ m. (m.client.items ≡ client.now) × (m.kept ≡ given_of taken.entry)) }
         ensures asks { IfOk result (λ m. (q : Question) × (question_in m ≡ Some q)) }
-        ensures digest { IfOk result (λ m. IsDigestOf m datagram.now) }
-        ensures own { IfOk result (λ m. (d : List ℕ) → m.digest ≡ Some d → d ≡ sha256 datagram.now) }
+        ensures digest { IfOk result (λ m. IsOfDatagram m datagram.now) }
     {
         let pdu = pdu_of(&taken);
         let digest = if pdu.tag == PduType::SetRequest.tag() {
@@ -170,9 +184,10 @@ impl Gate {
         message: WaitingMessage,
     ) -> Result<ClientTaken, AllocError>
         requires place { place < length self.old.requests.list.items }
-        requires same { HoldsAt (λ r. question_in r.first ≡ question_in message) self.old.requests.list.items place }
+        requires same { HoldsAt (λ r. (question_in r.first ≡ question_in message) × MayBeJoined r.work)
+            self.old.requests.list.items place }
         ensures takes { IfOk result (λ taken. (since : ℕ) (before : List Happening) (datagram : List ℕ) → since ≤ now
-            → IsDigestOf message datagram → GateStands since before self.old
+            → IsOfDatagram message datagram → GateStands since before self.old
             → TakenIn before now datagram message taken self.new) }
         ensures accepts { IfOk result IsNoRefusal }
         ensures untaken { IfOk result (λ taken. IsUntaken taken → IsAsBefore now self.old self.new) }
@@ -231,9 +246,9 @@ impl Gate {
         unhandled: Option<Unhandled>,
     ) -> Result<ClientTaken, AllocError>
         requires asks { (q : Question) × (question_in message ≡ Some q) }
-        requires digest { (datagram : List ℕ) × IsDigestOf message datagram }
+        requires digest { (datagram : List ℕ) × IsOfDatagram message datagram }
         ensures takes { IfOk result (λ taken. (since : ℕ) (before : List Happening) (datagram : List ℕ) → since ≤ now
-            → IsDigestOf message datagram → GateStands since before self.old
+            → IsOfDatagram message datagram → GateStands since before self.old
             → TakenIn before now datagram message taken self.new) }
         ensures accepts { IfOk result IsNoRefusal }
         ensures untaken { IfOk result (λ taken. IsUntaken taken → IsAsBefore now self.old self.new) }

@@ -15,6 +15,7 @@ ghost use Rattle.snmp_gate.specs.Messages.{IsViewerOf, question_in, seen_in};
 ghost use Rattle.snmp_gate.specs.Ends.{EndsSet, IsEndFor};
 ghost use Rattle.snmp_gate.specs.declared.set_answer.ResponseStatus.{ResponseStatus as Says};
 ghost use Rattle.snmp_gate.specs.declared.task.Task.TheVariants as TaskIs;
+ghost use Rattle.snmp_gate.specs.Beginning.{MayBeJoined};
 ghost use Rattle.snmp_gate.specs.Bounds.{IsFresh};
 ghost use Rattle.snmp_gate.specs.History.{Happening};
 ghost use Rattle.snmp_gate.specs.Noting.{AsksSet};
@@ -82,6 +83,7 @@ fn work_after(asked: OpenRequest, taken: AnswerTaken, viewer: &Viewer<'_>, late:
     ensures after { (tables : Tables) (q : Question) (told : Said) → IsViewerOf tables q viewer.now
         → IsEndFor q told taken → TaskHas tables q told asked.task.task → WorkAfter tables q told asked result }
     ensures no_set { ¬ AsksSet result }
+    ensures first { MayBeJoined result }
     ensures fresh { IsFresh result }
     ensures ends { (says : Says) → taken ≡ AnswerTaken.Ends says → result ≡ Work.Ends (RequestEnd.Own says) }
 {
@@ -159,6 +161,7 @@ fn after_answer(
         → question_in message.now ≡ Some q → old ≡ Open o → IsEndFor q told became
         → TaskHas tables.now q told o.task.task → WorkAfter tables.now q told o result }
     ensures no_set { ¬ AsksSet result }
+    ensures first { (o : OpenIs) → old ≡ Open o → MayBeJoined result }
     ensures fresh { IsFresh result }
     ensures ends { (o : OpenIs) (says : Says) → old ≡ Open o → became ≡ AnswerTaken.Ends says
         → result ≡ Work.Ends (RequestEnd.Own says) }
@@ -189,6 +192,7 @@ fn take_answer(
         → SaysAll (request_of_task q o.task.task) answer.now told
         → TaskStands tables.now q told o.task.task → WorkAfter tables.now q told o work.new) }
     ensures no_set { IfOk result (λ _. ¬ AsksSet work.new) }
+    ensures first { IfOk result (λ _. (o : OpenIs) → work.old ≡ Open o → MayBeJoined work.new) }
     ensures fresh { IfOk result (λ _. IsFresh work.new) }
     ensures set { IfOk result (λ _. AsksSet work.old → EndsAsSaid answer.now work.new) }
     ensures fits { IfOk result (λ fault. (q : Question) → question_in message.now ≡ Some q

@@ -16,6 +16,8 @@ pub enum RequestEnd {
     Front(BulkDialogue),
     /// A Response with this status, and the request's own bindings; with tooBig it has none.
     Own(ResponseStatus),
+    /// The same for a Set whose datagram came before, and was told this then.
+    Repeated(ResponseStatus),
     /// The request isn't answered, and a report may tell why.
     Unhandled(Unhandled),
     /// Nothing is sent.

@@ -57,16 +57,16 @@ asks tables d q said id r datagram (sets community write tag same each ask) =
     hidden.sets community id (variables_of q.list) write (subst (IsRequestFor datagram community.items id) same ask)
     (subst (λ (x : RequestPdu). All (λ (v : Variable). set_in tables q v.name) x.variables) same each)
 
-answers : (by : Answering) (tables : Tables) (q : Question) (said : Said) (g : Given) (answer : ClientAnswer) → IsAnswerTo by tables q said g answer → IsReported by g answer.datagram ⊎ ((told : Told) × IsSent by g told answer.datagram × All (IsOwnOrSeen (seen_in tables q) (variables_of q.list) said.variables) told.variables)
-answers by tables q said g answer (inr report) = inl report.0
-answers by tables q said g answer (inl (told, sent, (status, inl (none, may)))) = inr (told, sent.0, values tables q said told.variables may)
-answers by tables q said g answer (inl (told, sent, (status, inr (inl (some, own))))) = inr (told, sent.0, of_own tables q said.variables told.variables own)
-answers by tables q said g answer (inl (told, sent, (status, inr (inr (big, none))))) = inr (told, sent.0, subst (All (IsOwnOrSeen (seen_in tables q) (variables_of q.list) said.variables)) (sym none) (λ k d lt. absurd (omega (arith, lt))))
+answers : (by : Answering) (tables : Tables) (q : Question) (said : Said) (again : Option ResponseStatus) (g : Given) (answer : ClientAnswer) → IsAnswerTo by tables q said again g answer → IsReported by g answer.datagram ⊎ ((told : Told) × IsSent by g told answer.datagram × All (IsOwnOrSeen (seen_in tables q) (variables_of q.list) said.variables) told.variables)
+answers by tables q said again g answer (inr report) = inl report.0
+answers by tables q said again g answer (inl (told, sent, (status, inl (none, may)))) = inr (told, sent.0, values tables q said told.variables may)
+answers by tables q said again g answer (inl (told, sent, (status, inr (inl (some, own))))) = inr (told, sent.0, of_own tables q said.variables told.variables own)
+answers by tables q said again g answer (inl (told, sent, (status, inr (inr (big, none))))) = inr (told, sent.0, subst (All (IsOwnOrSeen (seen_in tables q) (variables_of q.list) said.variables)) (sym none) (λ k d lt. absurd (omega (arith, lt))))
 
 client_shown : (old new : Gate) (now : ℕ) (before : List Happening) (f : Fresh) (number : ℕ) (to : Vec ℕ) (says : Option ResponseStatus) (datagram : Vec ℕ) → SendHappens old now before f (out.ToClient number to says datagram) new → KeepsHidden old before (Client to datagram)
 client_shown old new now before f number to says datagram (m, same, happens) =
     let mediated = happens.lawful.mediated in
-    (number, m, answering_at old now f.salt, same, mediated.0, λ q asks. answers (answering_at old now f.salt) old.agent.tables q (told_in number before) m.kept (answer_with says datagram) (mediated.1 q asks))
+    (number, m, answering_at old now f.salt, same, mediated.0, λ q asks. answers (answering_at old now f.salt) old.agent.tables q (told_in number before) mediated.1.0 m.kept (answer_with says datagram) (mediated.1.2 q asks))
 
 pub to_client : (old new : Gate) (now : ℕ) (before : List Happening) (f : Fresh) (sent : Sent) (number : ℕ) (to : Vec ℕ) (says : Option ResponseStatus) (datagram : Vec ℕ) → sent ≡ out.ToClient number to says datagram → SendHappens old now before f sent new → KeepsHidden old before (Client to datagram)
 to_client old new now before f sent number to says datagram is happens =
@@ -79,7 +79,7 @@ device_asked old new now before f number to datagram (id, request, from, happens
       mediated.0,
       mediated.1,
       mediated.2,
-      λ d. asks old.agent.tables (slice_index_or old.devices.list.items to d) mediated.0 (told_in number before) id request datagram.items (mediated.3 d),
+      λ d. asks old.agent.tables (slice_index_or old.devices.list.items to d) mediated.0 (told_in number before) id request datagram.items (mediated.3 d).0,
     )
 
 pub to_device : (old new : Gate) (now : ℕ) (before : List Happening) (f : Fresh) (sent : Sent) (number to : ℕ) (datagram : Vec ℕ) → sent ≡ out.ToDevice number to datagram → SendHappens old now before f sent new → KeepsHidden old before (Device to datagram)

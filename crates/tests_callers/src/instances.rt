@@ -72,6 +72,35 @@ pub fn nothing_is_done_twice()
         (request again : RequestPdu) (first second : List ℕ) → limits.retries.tries ≤ 1
         → ¬ AlwaysKeepsTo limits devices (asked number device other again second
         ∷ asked number device id request first ∷ []) }
+    ensures datagram { (agent : AgentState) (devices : List Device) (number other now device id again : ℕ)
+        (set : Question) (message copy : WaitingMessage) (request same : RequestPdu) (datagram first second : List ℕ)
+        → question_in message ≡ Some set → question_in copy ≡ Some set → set.tag ≡ pdu_tag SetRequest
+        → number ≢ other
+        → ¬ AreLawful agent devices (asked other device again same second ∷ asked number device id request first
+        ∷ accepted other now datagram copy ∷ accepted number now datagram message ∷ []) }
+{}
+
+/// No Response says that a Set with bindings was done that no device was asked, and that didn't come before.
+pub fn no_set_is_done_by_itself()
+    ensures { (agent : AgentState) (devices : List Device) (number now : ℕ) (index : ℤ) (datagram : List ℕ)
+        (message : WaitingMessage) (by : Answering) (answer : ClientAnswer) (set : Question) (first : Variable)
+        (others : List Variable)
+        → question_in message ≡ Some set → set.tag ≡ pdu_tag SetRequest → variables_of set.list ≡ first ∷ others
+        → answer.says ≡ Some (record { status = NO_ERROR; index = index })
+        → ¬ AreLawful agent devices (sent number message by answer ∷ accepted number now datagram message ∷ []) }
+{}
+
+/// No message waits for longer than all tries and `last` take (`waits`), and none without authentication is answered at
+/// length (`answers`).
+pub fn no_limit_is_passed()
+    ensures waits { (limits : GateLimits) (number at now : ℕ) (datagram : List ℕ) (message : WaitingMessage)
+        → at + limits.retries.last + max 1 limits.retries.tries * limits.retries.again ≤ now
+        → ¬ WaitInTime limits now (accepted number at datagram message ∷ []) }
+    ensures answers { (limits : GateLimits) (devices : List Device) (number now : ℕ) (datagram : List ℕ)
+        (message : WaitingMessage) (by : Answering) (answer : ClientAnswer)
+        → MustBeShort limits message.kept.level → 2 * length datagram < length answer.datagram
+        → SHORT_ANSWER < length answer.datagram
+        → ¬ AlwaysKeepsTo limits devices (sent number message by answer ∷ accepted number now datagram message ∷ []) }
 {}
 
 /// A forwarder sends no notification to one receiver twice.

@@ -5,11 +5,11 @@ use Rattle.vacm_core.specs.declared.access.ViewType.TheVariants.{Read}
 use Rattle.snmp_gate.specs.Messages.{IsAnswerFor}
 use Rattle.snmp_gate.proofs.begin.begin.Goals as goal
 
-pub returns-in-Some : goal.returns-in-Some
-returns-in-Some c tables q told nothing viewer of = c.ending_of.ensures tables q told nothing
+pub returns-in-Some-clause-stands : goal.returns-in-Some-clause-stands
+returns-in-Some-clause-stands c tables q told nothing viewer of = c.ending_of.ensures.stands tables q told nothing
 
-pub returns-then-len-gt-MOST_VARIABLES : goal.returns-then-len-gt-MOST_VARIABLES
-returns-then-len-gt-MOST_VARIABLES c tables q told nothing viewer of = c.asks_too_much.ensures tables q told
+pub returns-then-len-gt-MOST_VARIABLES-clause-stands : goal.returns-then-len-gt-MOST_VARIABLES-clause-stands
+returns-then-len-gt-MOST_VARIABLES-clause-stands c tables q told nothing viewer of = c.asks_too_much.ensures.stands tables q told
 
 pub begin_bulk-requires : goal.begin_bulk-requires
 begin_bulk-requires c =

@@ -1,4 +1,5 @@
-use Rattle.std.proofs.Common.{List, ap, subst, sym, ◌∙◌, All, ℕ}
+use Rattle.std.proofs.Common.{List, arith, ap, length, subst, sym, ◌∙◌, All, ℕ}
+use Rattle.std.proofs.lemmas.Slice.Zip.{AllZip-long}
 use Rattle.std.specs.List.{AllZip}
 use Rattle.snmp_msg.specs.Variables.{Variable, variables_of}
 use Rattle.vacm_core.specs.declared.access.Access.{Access}
@@ -8,7 +9,7 @@ use Rattle.snmp_gate.proofs.Granted.{may_all}
 use Rattle.snmp_gate.proofs.first_work.set_access.Goals as goal
 
 pub returns-in-Some-clause-ends : goal.returns-in-Some-clause-ends
-returns-in-Some-clause-ends c q told = c.ending_of.ensures c.args.tables.now q told
+returns-in-Some-clause-ends c q told = c.ending_of.ensures.stands c.args.tables.now q told
 
 pub returns-clause-may : goal.returns-clause-may
 returns-clause-may c none q asked set =
@@ -21,3 +22,29 @@ returns-clause-may c none q asked set =
     (may_all tables q c.viewer_of-viewer.result c.pdu_of-pdu.result.tag (variables_of c.pdu_of-pdu.result.list.now) c.deref.result.now viewer (pdu.tag ∙ set)
     (subst (λ (answers : List Access). AllZip (IsAnswerFor c.viewer_of-viewer.result Write) (variables_of c.pdu_of-pdu.result.list.now) answers) (sym c.deref.ensures.value) c.in_ok-answers.ensures)
     c.in-None.ensures)
+
+pub returns-clause-bindings : goal.returns-clause-bindings
+returns-clause-bindings c q asked =
+    let client = c.args.message.now.client.items in
+    let pdu = c.pdu_of-pdu.ensures.asked client q (ap (question_given client) c.taken-taken.ensures ∙ asked) in
+    let answers = c.in_ok-answers.answers.items in
+    omega (
+      arith,
+      c.len-bindings.ensures,
+      c.deref.ensures.len,
+      AllZip-long (IsAnswerFor c.viewer_of-viewer.result Write) (variables_of c.pdu_of-pdu.result.list.now) answers c.in_ok-answers.ensures,
+      ap (λ (octets : List ℕ). length (variables_of octets)) pdu.list,
+    )
+
+pub returns-in-Some-clause-bindings : goal.returns-in-Some-clause-bindings
+returns-in-Some-clause-bindings c q asked =
+    let client = c.args.message.now.client.items in
+    let pdu = c.pdu_of-pdu.ensures.asked client q (ap (question_given client) c.taken-taken.ensures ∙ asked) in
+    let answers = c.in_ok-answers.answers.items in
+    omega (
+      arith,
+      c.len-bindings.ensures,
+      c.deref.ensures.len,
+      AllZip-long (IsAnswerFor c.viewer_of-viewer.result Write) (variables_of c.pdu_of-pdu.result.list.now) answers c.in_ok-answers.ensures,
+      ap (λ (octets : List ℕ). length (variables_of octets)) pdu.list,
+    )

@@ -4,4 +4,4 @@ use Rattle.snmp_gate.proofs.laws.a_client_sees_the_device.Goals as goal
 
 pub returns : goal.returns
 returns c agent devices before number message by answer device q lawful asks plain truly =
-    tells_device device plain agent.tables q (told_in number before) truly by message.kept answer (lawful.0.mediated.1 q asks)
+    tells_device device plain agent.tables q (told_in number before) lawful.0.mediated.1.0 truly by message.kept answer (lawful.0.mediated.1.2 q asks)

@@ -5,6 +5,7 @@ use Rattle.snmp_walk.specs.BulkAsk.{IsAskOf, repetitions_due}
 use Rattle.snmp_walk.specs.BulkDialogue.{IsBulkNext}
 use Rattle.gateway_laws.proofs.BulkTrueRuns.{next_same}
 use Rattle.snmp_gate.proofs.Standing.{bulk_goes_tracking, bulk_stands}
+use Rattle.std.specs.Prelude.{None}
 use Rattle.snmp_gate.proofs.onward.bulk_on.Goals as goal
 
 pub returns-in-Asks-clause-stands : goal.returns-in-Asks-clause-stands
@@ -32,4 +33,4 @@ returns-in-Ends-clause-stands c tables q told viewer stands =
     c.go_on.ensures.requests stands
 
 pub returns-in-RoundsUsedUp-clause-stands : goal.returns-in-RoundsUsedUp-clause-stands
-returns-in-RoundsUsedUp-clause-stands c tables q told viewer stands = gen_err_told q told c.gen_err.result c.gen_err.ensures (no_bulk q stands.tag)
+returns-in-RoundsUsedUp-clause-stands c tables q told viewer stands = gen_err_told q told None c.gen_err.result c.gen_err.ensures (no_bulk q stands.tag)

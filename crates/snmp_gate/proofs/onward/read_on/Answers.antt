@@ -1,5 +1,6 @@
 use Rattle.snmp_gate.proofs.Telling.{gen_err_told, no_read}
 use Rattle.snmp_gate.proofs.Standing.{goes_tracking, read_stands}
+use Rattle.std.specs.Prelude.{None}
 use Rattle.snmp_gate.proofs.onward.read_on.Goals as goal
 
 pub returns-in-Asks-clause-stands : goal.returns-in-Asks-clause-stands
@@ -15,4 +16,4 @@ returns-in-Ends-clause-stands c tables q told viewer stands = (
 )
 
 pub returns-in-RoundsUsedUp-clause-stands : goal.returns-in-RoundsUsedUp-clause-stands
-returns-in-RoundsUsedUp-clause-stands c tables q told viewer stands = gen_err_told q told c.gen_err.result c.gen_err.ensures (no_read q c.args.operation stands.tag)
+returns-in-RoundsUsedUp-clause-stands c tables q told viewer stands = gen_err_told q told None c.gen_err.result c.gen_err.ensures (no_read q c.args.operation stands.tag)

@@ -14,7 +14,7 @@ use Rattle.snmp_gate.proofs.reply.reply_bulk.Goals as goal
 
 pub returns-then-not-can_be_written-clause-sent : goal.returns-then-not-can_be_written-clause-sent
 returns-then-not-can_be_written-clause-sent c =
-    on_ok c.reply_own.result _ _ (λ r sent client q said asked stands. sent client q said asked (unwritten q said (no_bulk q stands.tag))) c.reply_own.ensures.sent
+    on_ok c.reply_own.result _ _ (λ r sent client q said again asked stands. sent client q said again asked (unwritten q said again (no_bulk q stands.tag))) c.reply_own.ensures.sent
 
 pub returns-clause-sent : goal.returns-clause-sent
 returns-clause-sent c =
@@ -24,7 +24,7 @@ returns-clause-sent c =
     let d = c.args.dialogue.now in
     let bs = c.deref-2.result.now in
     on_ok c.reply_front.result (IsFrontSentOr a g (map variable_of bs)) _
-    (λ r sent client q said asked stands.
+    (λ r sent client q said again asked stands.
     let viewer : Viewer = record {
       vacm = record { ref_ptr = c.args.agent.ref_ptr; now = tables };
       model = 3;
@@ -34,7 +34,7 @@ returns-clause-sent c =
     } in
     let is : IsViewerOf tables q viewer = record { tables_are = refl; model = refl; name = refl; level = refl; context = refl } in
     let all = c.in_ok-bindings.ensures.outwards viewer said.variables (from_seen (λ (Seen : List ℕ → Type 0). BulkAllStand Seen said.variables d) tables q viewer is stands.stand) in
-    front_reply a tables q said g d bs r stands
+    front_reply a tables q said again g d bs r stands
     (subst (λ (ws : List Binding). All (IsShownOf (seen_in tables q) said.variables d.columns.items) (map variable_of ws)) (sym c.deref-2.ensures.value)
     (to_seen (λ (Seen : List ℕ → Type 0). All (IsShownOf Seen said.variables d.columns.items) (map variable_of c.in_ok-bindings.bindings.items)) tables q viewer is all))
     (subst (λ (ws : List Binding). IsFront d.non_repeaters d.max_repetitions d.columns.items (map variable_of ws)) (sym c.deref-2.ensures.value) c.in_ok-bindings.ensures.front)

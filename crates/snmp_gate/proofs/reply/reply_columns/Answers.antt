@@ -14,7 +14,7 @@ use Rattle.snmp_gate.proofs.reply.reply_columns.Goals as goal
 
 pub returns-then-not-can_be_written-clause-sent : goal.returns-then-not-can_be_written-clause-sent
 returns-then-not-can_be_written-clause-sent c =
-    on_ok c.reply_own.result _ _ (λ r sent client q said operation asked stands. sent client q said asked (unwritten q said (no_read q operation stands.tag))) c.reply_own.ensures.sent
+    on_ok c.reply_own.result _ _ (λ r sent client q said again operation asked stands. sent client q said again asked (unwritten q said again (no_read q operation stands.tag))) c.reply_own.ensures.sent
 
 pub returns-clause-sent : goal.returns-clause-sent
 returns-clause-sent c =
@@ -24,7 +24,7 @@ returns-clause-sent c =
     let d = c.args.whole.now.dialogue in
     let bs = c.deref-2.result.now in
     on_ok c.reply_with.result (IsSentOr a g (without_error (map variable_of bs))) _
-    (λ r sent client q said operation asked stands.
+    (λ r sent client q said again operation asked stands.
     let viewer : Viewer = record {
       vacm = record { ref_ptr = c.args.agent.ref_ptr; now = tables };
       model = 3;
@@ -34,7 +34,7 @@ returns-clause-sent c =
     } in
     let is : IsViewerOf tables q viewer = record { tables_are = refl; model = refl; name = refl; level = refl; context = refl } in
     let zip = c.in_ok-bindings.ensures.outwards viewer said.variables (from_seen (λ (Seen : List ℕ → Type 0). AllStand Seen said.variables d) tables q viewer is stands.stand) in
-    columns_reply a tables q said g operation d.columns.items bs r stands.tag stands.requests_are
+    columns_reply a tables q said again g operation d.columns.items bs r stands.tag stands.requests_are
     (subst (λ (ws : List Binding). AllZip (Shows (seen_in tables q) said.variables) d.columns.items ws) (sym c.deref-2.ensures.value)
     (to_seen (λ (Seen : List ℕ → Type 0). AllZip (Shows Seen said.variables) d.columns.items c.in_ok-bindings.bindings.items) tables q viewer is zip))
     (subst (λ (ws : List Binding). AllZip IsShown d.columns.items ws) (sym c.deref-2.ensures.value) c.in_ok-bindings.ensures.shown)

@@ -16,7 +16,7 @@ returns-clause-sent c =
     let vs = map bound_variable c.deref.result.now in
     let fits : SFits w32 says.status = search rules in
     on_ok c.reply_with.result (IsSentOr a g (told_with says vs)) _
-    (λ r sent client q said asked own. own_reply a c.args.agent.now.tables q said g says vs r own
+    (λ r sent client q said again asked own. own_reply a c.args.agent.now.tables q said again g says vs r own
     (subst (λ (bs : List VariableBinding). IsOwnList q says.status (map bound_variable bs)) (sym c.deref.ensures.value)
     (subst (λ (n : ℤ). IsOwnList q n (map bound_variable c.in_ok-bindings.bindings.items)) (to_z-of_z w32 says.status fits) (c.in_ok-bindings.ensures.says client q asked)))
     sent)

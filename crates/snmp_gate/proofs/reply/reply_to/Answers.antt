@@ -1,9 +1,10 @@
-use Rattle.std.proofs.Common.{subst}
+use Rattle.std.proofs.Common.{None, Some, subst, sym}
 use Rattle.snmp_incoming.specs.Answers.{given_of}
-use Rattle.snmp_gate.specs.Replies.{answering}
-use Rattle.snmp_gate.specs.Work.{EndingStands}
-use Rattle.snmp_gate.proofs.Sending.{on_ok}
-use Rattle.snmp_gate.proofs.Telling.{of_message, report_reply}
+use Rattle.snmp_gate.specs.Replies.{IsReplyTo, answering}
+use Rattle.snmp_gate.specs.Work.{EndingStands, again_of}
+use Rattle.snmp_gate.specs.declared.work.RequestEnd.{RequestEnd}
+use Rattle.snmp_gate.proofs.Sending.{on_ok, short_of_message}
+use Rattle.snmp_gate.proofs.Telling.{of_message, repeated_status, report_reply}
 use Rattle.snmp_gate.proofs.reply.reply_to.Goals as goal
 
 pub returns-in-Own-clause-sent : goal.returns-in-Own-clause-sent
@@ -12,9 +13,22 @@ returns-in-Own-clause-sent c =
     let tables = c.args.agent.now.tables in
     let client = c.args.message.now.client.items in
     on_ok c.reply_own.result _ _ (λ r sent q said asked stands.
-    of_message a tables q said (given_of c.taken-taken.result) c.args.message.now.kept client r c.taken-taken.ensures
-    (λ given. sent client q said given (subst (EndingStands tables q said) c.in-Own.is stands)) asked)
+    subst (λ (e : RequestEnd). IsReplyTo a tables q said (again_of e) c.args.message.now.kept r) (sym c.in-Own.is)
+    (of_message a tables q said None (given_of c.taken-taken.result) c.args.message.now.kept client r c.taken-taken.ensures
+    (λ given. sent client q said None given (subst (EndingStands tables q said) c.in-Own.is stands)) asked))
     c.reply_own.ensures.sent
+
+pub returns-in-Repeated-clause-sent : goal.returns-in-Repeated-clause-sent
+returns-in-Repeated-clause-sent c =
+    let a = answering c.args.agent.now c.args.sealing.now in
+    let tables = c.args.agent.now.tables in
+    let client = c.args.message.now.client.items in
+    let says = c.in-Repeated.says in
+    on_ok c.reply_own-in-Repeated.result _ _ (λ r sent q said asked stands.
+    subst (λ (e : RequestEnd). IsReplyTo a tables q said (again_of e) c.args.message.now.kept r) (sym c.in-Repeated.is)
+    (of_message a tables q said (Some says) (given_of c.taken-taken.result) c.args.message.now.kept client r c.taken-taken.ensures
+    (λ given. sent client q said (Some says) given (repeated_status q said says (subst (EndingStands tables q said) c.in-Repeated.is stands))) asked))
+    c.reply_own-in-Repeated.ensures.sent
 
 pub returns-in-Unhandled-clause-sent : goal.returns-in-Unhandled-clause-sent
 returns-in-Unhandled-clause-sent c =
@@ -22,6 +36,21 @@ returns-in-Unhandled-clause-sent c =
     let tables = c.args.agent.now.tables in
     let client = c.args.message.now.client.items in
     on_ok c.reply_unhandled.result _ _ (λ r sent q said asked stands.
-    of_message a tables q said (given_of c.taken-taken.result) c.args.message.now.kept client r c.taken-taken.ensures
-    (λ given. report_reply a tables q said (given_of c.taken-taken.result) r sent) asked)
+    of_message a tables q said (again_of c.args.ending.now) (given_of c.taken-taken.result) c.args.message.now.kept client r c.taken-taken.ensures
+    (λ given. report_reply a tables q said (again_of c.args.ending.now) (given_of c.taken-taken.result) r sent) asked)
     c.reply_unhandled.ensures.sent
+
+pub returns-in-Columns-clause-short : goal.returns-in-Columns-clause-short
+returns-in-Columns-clause-short c = short_of_message c.reply_columns.result c.args.sealing.now.limit (given_of c.taken-taken.result) c.args.message.now.kept c.taken-taken.ensures c.reply_columns.ensures.short
+
+pub returns-in-Front-clause-short : goal.returns-in-Front-clause-short
+returns-in-Front-clause-short c = short_of_message c.reply_bulk.result c.args.sealing.now.limit (given_of c.taken-taken.result) c.args.message.now.kept c.taken-taken.ensures c.reply_bulk.ensures.short
+
+pub returns-in-Own-clause-short : goal.returns-in-Own-clause-short
+returns-in-Own-clause-short c = short_of_message c.reply_own.result c.args.sealing.now.limit (given_of c.taken-taken.result) c.args.message.now.kept c.taken-taken.ensures c.reply_own.ensures.short
+
+pub returns-in-Repeated-clause-short : goal.returns-in-Repeated-clause-short
+returns-in-Repeated-clause-short c = short_of_message c.reply_own-in-Repeated.result c.args.sealing.now.limit (given_of c.taken-taken.result) c.args.message.now.kept c.taken-taken.ensures c.reply_own-in-Repeated.ensures.short
+
+pub returns-in-Unhandled-clause-short : goal.returns-in-Unhandled-clause-short
+returns-in-Unhandled-clause-short c = short_of_message c.reply_unhandled.result c.args.sealing.now.limit (given_of c.taken-taken.result) c.args.message.now.kept c.taken-taken.ensures c.reply_unhandled.ensures.short

@@ -1,13 +1,20 @@
-use Rattle.std.proofs.Common.{refl}
+use Rattle.std.proofs.Common.{inl, inr, refl, subst, sym}
 use Rattle.snmp_message.specs.Scoped.{contexts_of}
 use Rattle.snmp_incoming.specs.Answers.{given_of}
 use Rattle.snmp_msg.specs.Pdu.{pdu_of}
+use Rattle.snmp_gate.specs.Replies.{IsReportedOr, answering}
+use Rattle.snmp_gate.specs.declared.reply.Reply.{Reply}
 use Rattle.snmp_gate.proofs.Sending.{refused_same}
 use Rattle.snmp_gate.proofs.reply.reply_unhandled.Goals as goal
 
 pub returns-in-Ok-Some-clause-sent : goal.returns-in-Ok-Some-clause-sent
 returns-in-Ok-Some-clause-sent c =
-    ((λ contexts pdu front text. (c.args.why, c.refuse.new.self, rw c.in-Ok-Some.field-0-is at (c.in-Ok-Some.ensures.answer contexts pdu front text))), refl)
+    let a = answering c.args.agent.now c.args.sealing.now in
+    let Is : Reply → Type 0 = IsReportedOr a (given_of c.args.taken.now) in
+    elim c.report_within.ensures.is [
+      | inl none ↦ subst Is (sym none) tt
+      | inr is ↦ subst Is (sym is) ((λ contexts pdu front text. (c.args.why, c.refuse.new.self, rw c.in-Ok-Some.field-0-is at (c.in-Ok-Some.ensures.answer contexts pdu front text))), refl)
+    ]
 
 pub returns-in-Ok-Some-clause-same : goal.returns-in-Ok-Some-clause-same
 returns-in-Ok-Some-clause-same c =

@@ -2,7 +2,7 @@ use Rattle.std.proofs.Common.{inl, refl, rules, to_z, of_z, w32, SFits}
 use Rattle.std.proofs.lemmas.Int.{to_z-of_z}
 use Rattle.snmp_incoming.specs.Answers.{given_of}
 use Rattle.snmp_gate.specs.Replies.{answering}
-use Rattle.snmp_gate.proofs.Sending.{sent_with, within}
+use Rattle.snmp_gate.proofs.Sending.{sent_with, within, within_limit}
 use Rattle.snmp_gate.proofs.reply.reply_with.Goals as goal
 
 pub returns-in-Ok-clause-sent : goal.returns-in-Ok-clause-sent
@@ -17,3 +17,6 @@ returns-in-Ok-clause-sent g c =
           (λ contexts pdu front text. within _ _ _ (c.in-Ok.ensures.answer contexts pdu front text)),
       refl,
     )
+
+pub returns-in-Ok-clause-short : goal.returns-in-Ok-clause-short
+returns-in-Ok-clause-short g c contexts pdu front text = within_limit _ _ _ (c.in-Ok.ensures.answer contexts pdu front text)

@@ -1,4 +1,4 @@
-use Rattle.std.proofs.Common.{ap, inl, refl, subst, sym, ◌∙◌}
+use Rattle.std.proofs.Common.{Option, ap, inl, refl, subst, sym, ◌∙◌}
 use Rattle.snmp_agent.specs.Agent.{AgentState}
 use Rattle.snmp_gate.specs.Due.{HasEnded}
 use Rattle.snmp_gate.specs.Groups.{IsAnswered, groups_of}
@@ -6,7 +6,9 @@ use Rattle.snmp_gate.specs.declared.requests.WaitingRequest.{WaitingRequest}
 use Rattle.snmp_gate.specs.declared.requests.WaitingRequests.{WaitingRequests}
 use Rattle.snmp_gate.specs.declared.waiting_message.WaitingMessage.{WaitingMessage}
 use Rattle.snmp_gate.specs.declared.work.Work.{Work}
+use Rattle.snmp_gate.specs.Noting.{IsToldOf}
 use Rattle.snmp_gate.specs.Waiting.{fresh}
+use Rattle.snmp_gate.specs.declared.set_answer.ResponseStatus.{ResponseStatus}
 use Rattle.snmp_gate.proofs.Bounded.{stays_answered, stays_counted}
 use Rattle.snmp_gate.proofs.GroupSteps.{on_err}
 use Rattle.snmp_gate.proofs.Histories.{IsLeftAfter}
@@ -28,8 +30,9 @@ returns-clause-happens c since ask_id before later stands =
       next = ap (λ (rs : WaitingRequests WaitingMessage Work). rs.next) c.tell_set.ensures.same.requests ∙ c.answer-message.ensures.next;
       answer = subst (λ (rs : WaitingRequests WaitingMessage Work). IsAnswered (groups_of g.requests.list.items) c.args.place m (groups_of rs.list.items)) (sym c.tell_set.ensures.same.requests) c.answer-message.ensures.answered;
     } in
-    reply_happens g c.tell_set.new.self since c.args.now before c.args.place (fresh c.args.salt ask_id) r m c.said_of-said.result m.client c.in_ok-reply.reply c.sent_by.result later c.requires.place c.index-request.ensures
-    left refl c.in_ok-reply.ensures.sent c.sent_by.ensures.is c.tell_set.ensures.same.asks c.tell_set.ensures.told stands
+    reply_happens g c.tell_set.new.self since c.args.now before c.args.place (fresh c.args.salt ask_id) r m m.client c.in_ok-reply.reply c.sent_by.result later c.requires.place c.index-request.ensures
+    left refl c.in_ok-reply.ensures.sent c.sent_by.ensures.is c.tell_set.ensures.same.asks
+    (subst (λ (s : Option ResponseStatus). IsToldOf m s g.sets.sets.items c.tell_set.new.self.sets.sets.items) c.said_by.ensures c.tell_set.ensures.told) c.in_ok-reply.ensures.short stands
 
 pub returns-clause-stays : goal.returns-clause-stays
 returns-clause-stays c =

@@ -12,7 +12,7 @@ use Rattle.snmp_gate.specs.Noting.{AsksSet}
 use Rattle.snmp_gate.specs.declared.requests.WaitingRequest.{WaitingRequest}
 use Rattle.snmp_gate.specs.declared.waiting_message.WaitingMessage.{WaitingMessage}
 use Rattle.snmp_gate.specs.declared.work.Work.{Work}
-use Rattle.snmp_gate.proofs.SetsGoing.{asked_before, asked_once, asked_sets, no_set_never}
+use Rattle.snmp_gate.proofs.SetsGoing.{asked_before, asked_once, asked_outcomes, asked_sets, no_set_never}
 use Rattle.snmp_gate.proofs.Todos.{may_again, tried_less, open_again}
 use Rattle.snmp_gate.proofs.gate.Gate.ask_again_at.Goals as goal
 
@@ -46,12 +46,13 @@ returns-clause-happens c since before f later stands =
               (no_set_never g.agent.tables g.devices.list.items before g.requests.next rs new place device n id datagram.items all.request c.requires.place opened sets stands.requests
               (at_read rs (λ (x : WaitingRequest WaitingMessage Work). ¬ AsksSet x.work) place c.index.result.now c.requires.place c.index.ensures (λ set. false≢true (c.if-is_set_at.ensures.1 set)))) stands.sets;
         };
-        tried = omega (arith, known.tried, fewer, c.tries-tries.type_inv, c.tries-tries.ensures);
+        allowed = omega (arith, known.tried, fewer, c.tries-tries.type_inv, c.tries-tries.ensures);
         stands = record {
           requests = moved g.agent.tables g.agent.tables g.devices.list.items g.devices.list.items (asked n device id all.request datagram.items ∷ before) g.requests.next c.set_asked.new.requests.next (groups_of new) (groups_of new)
               refl refl c.set_asked.ensures.next refl all.stands;
           asks = again.0;
           sets = asked_sets g.agent.tables g.devices.list.items before g.requests.next rs new place device n id datagram.items all.request c.requires.place opened sets stands.requests since c.args.now g.sets.sets.items later stands.sets;
+          outcomes = asked_outcomes g.agent.tables g.devices.list.items before g.requests.next rs new place device n id datagram.items all.request c.requires.place opened sets stands.requests g.sets.sets.items stands.outcomes;
         };
       },
     )

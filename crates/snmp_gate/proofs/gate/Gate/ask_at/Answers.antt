@@ -21,8 +21,7 @@ use Rattle.snmp_gate.proofs.AsksKept.{asks_asked, asks_of_asked, free_again, fre
 use Rattle.snmp_gate.proofs.Histories.{asked_all, asked_so_far, moved}
 use Rattle.snmp_gate.proofs.Keeping.{stands_kept, stays_as_before}
 use Rattle.snmp_gate.proofs.Same.{work_as_before}
-use Rattle.snmp_gate.proofs.SetsGoing.{asked_once, asked_sets, unasked_never}
-use Rattle.snmp_gate.proofs.SetsKept.{keeps_same}
+use Rattle.snmp_gate.proofs.SetsGoing.{asked_once, asked_outcomes, asked_sets, unasked_never}
 use Rattle.snmp_gate.specs.Waiting.{AsksStand, asks_in, fresh}
 use Rattle.snmp_gate.specs.declared.asks.TheConstants.{REQUEST_IDS}
 use Rattle.snmp_gate.proofs.Sending.{on_ok}
@@ -93,12 +92,13 @@ returns-clause-happens c since before later stands =
           once = asked_once g.agent.tables g.devices.list.items before g.requests.next rs new place device n id datagram.items all.request c.requires.place opened sets stands.requests since g.sets.sets.items
               (unasked_never g.agent.tables g.devices.list.items before g.requests.next rs new place device n id datagram.items all.request c.requires.place opened sets stands.requests (λ r. unasked g.limits g.asks.items c.args.now (slice_index_or rs place r).work (c.requires.due r))) stands.sets;
         };
-        tried = let none_asked = known.unasked none in omega (arith, none_asked);
+        allowed = let none_asked = known.unasked none in omega (arith, none_asked);
         stands = record {
           requests = moved g.agent.tables g.agent.tables g.devices.list.items g.devices.list.items (asked n device id all.request datagram.items ∷ before) g.requests.next c.set_asked.new.requests.next (groups_of new) (groups_of new)
               refl refl c.set_asked.ensures.next refl all.stands;
           asks = subst (AsksStand (asked n device id all.request datagram.items ∷ before)) (sym now_in) asks;
           sets = asked_sets g.agent.tables g.devices.list.items before g.requests.next rs new place device n id datagram.items all.request c.requires.place opened sets stands.requests since c.args.now g.sets.sets.items later stands.sets;
+          outcomes = asked_outcomes g.agent.tables g.devices.list.items before g.requests.next rs new place device n id datagram.items all.request c.requires.place opened sets stands.requests g.sets.sets.items stands.outcomes;
         };
       },
     )
@@ -160,7 +160,7 @@ returns-in_err-ask-clause-err c =
       stands = stands_kept c.args.now c.args.self.now _ refl refl
           (map-set_same (λ (a : DeviceAsks). a.asks.items) asks c.device_at-device.result.0 c.ask.new.self c.index_mut.result.now
           (c.in_err-ask.ensures.err ∙ ap (λ (a : DeviceAsks). a.asks.items) c.index_mut.ensures.value))
-          refl refl (keeps_same c.args.now c.args.self.now.sets.sets.items c.args.self.now.sets.sets.items refl);
+          refl refl (inl refl);
     })
 
 pub returns-in_err-datagram-clause-err : goal.returns-in_err-datagram-clause-err

@@ -17,14 +17,14 @@ use Rattle.snmp_gate.proofs.GroupSteps.{on_err}
 use Rattle.snmp_gate.proofs.Histories.{moved}
 use Rattle.std.specs.Global.{Vec}
 use Rattle.snmp_gate.specs.Lawful.{IsInTurn}
-use Rattle.snmp_gate.specs.Waiting.{AsksStand, GateStands, SetsStand, asks_in}
+use Rattle.snmp_gate.specs.Waiting.{AsksStand, GateStands, OutcomesStand, SetsStand, asks_in}
 use Rattle.snmp_gate.specs.declared.asks.DeviceAsks.{DeviceAsks}
 use Rattle.snmp_gate.proofs.AsksKept.{asks_same}
 use Rattle.snmp_gate.specs.declared.gate.Gate.{Gate}
 use Rattle.snmp_gate.proofs.Bounded.{agent_same, bounded_begun, new_fresh, stays_forgotten, stays_noted, stays_on, stays_requests, stays_same, stays_twice}
 use Rattle.snmp_gate.proofs.Keeping.{as_before, keeps_again, same_before, stands_later, stands_noted, stays_as_before, unnoted}
-use Rattle.snmp_gate.proofs.SetsComing.{begun_sets, keeps_noted_for, task_asks}
-use Rattle.snmp_gate.proofs.SetsKept.{keeps_kept}
+use Rattle.snmp_gate.proofs.SetsComing.{begun_sets, task_asks}
+use Rattle.snmp_gate.proofs.Repeating.{begun_outcomes}
 use Rattle.snmp_gate.proofs.Joining.{begins_in_turn, begun_all}
 use Rattle.snmp_gate.specs.Untaken.{by_numbers, by_requests}
 use Rattle.snmp_gate.proofs.Untaken.{noted_before, noted_full}
@@ -66,10 +66,13 @@ returns-in-Ok-clause-takes c since before datagram later digest stands =
     let known = subst (λ (x : WaitingRequests WaitingMessage Work). SetsStand since before (groups_of x.list.items) g.sets.sets.items) (sym rs) stands.sets in
     let sets = begun_sets n.agent.tables n.devices.list.items before n.requests.next (groups_of n.requests.list.items) new m q w since c.args.now datagram g.sets.sets.items c.first_work.new.self.sets.sets.items n.sets.sets.items c.in_ok-noted.noted
     c.requires.asks.1 well_now digest later c.in_default-noted.not-Before c.in_default-noted-2.not-NoRoom c.first_work.ensures.sets c.in_ok-noted.ensures.noted c.in-Ok.ensures.ok requests known in
+    let outcomes = begun_outcomes n.agent.tables n.devices.list.items n.requests.next c.args.now datagram m before (groups_of n.requests.list.items) new w g.sets.sets.items c.first_work.new.self.sets.sets.items n.sets.sets.items c.in_ok-noted.noted digest
+    c.first_work.ensures.sets c.in_default-noted.not-Before c.in_default-noted-2.not-NoRoom c.in_ok-noted.ensures.noted (rw c.in-Some.is at c.in_ok-work.ensures.known) c.in-Ok.ensures.ok requests
+    (subst (λ (x : WaitingRequests WaitingMessage Work). OutcomesStand before (groups_of x.list.items) g.sets.sets.items) (sym rs) stands.outcomes) in
     let asks = asks_same (accepted n.requests.next c.args.now datagram m) before (asks_in n.asks.items) (λ k. refl) (subst (λ (v : Vec DeviceAsks). AsksStand before (asks_in v.items)) (sym (note.asks ∙ first.asks)) stands.asks) in
     subst (λ (k : ℕ). IsInTurn before (accepted k c.args.now datagram m)
     × GateStands c.args.now (accepted k c.args.now datagram m ∷ before) (record { alloc = n.alloc; agent = n.agent; devices = n.devices; asks = n.asks; limits = n.limits; requests = c.begin.new.self; sets = n.sets })) (sym c.in-Ok.ensures.number)
-    (begins_in_turn before n.requests.next c.args.now datagram m requests.past, record { requests = all; asks = asks; sets = sets })
+    (begins_in_turn before n.requests.next c.args.now datagram m requests.past, record { requests = all; asks = asks; sets = sets; outcomes = outcomes })
 
 pub returns-then-is_full-clause-takes : goal.returns-then-is_full-clause-takes
 returns-then-is_full-clause-takes c since before datagram later digest stands = stands_later c.args.now c.args.self.now since before later stands
@@ -79,15 +82,15 @@ returns-in_err-work-clause-err c = on_err _ _ (same_before c.args.now c.args.sel
 
 pub returns-in_default-clause-takes : goal.returns-in_default-clause-takes
 returns-in_default-clause-takes c since before datagram later digest stands =
-    stands_noted c.args.now c.args.self.now c.first_work.new.self c.first_work.ensures.same (keeps_kept c.args.now c.args.self.now.sets.sets.items c.first_work.new.self.sets.sets.items c.first_work.ensures.sets) since before later stands
+    stands_noted c.args.now c.args.self.now c.first_work.new.self c.first_work.ensures.same c.first_work.ensures.sets since before later stands
 
 pub returns-in-Before-clause-takes : goal.returns-in-Before-clause-takes
 returns-in-Before-clause-takes c since before datagram later digest stands =
     let g = c.args.self.now in
     let mid = c.first_work.new.self in
     let n = c.note_asked.new.self in
-    let first = stands_noted c.args.now g mid c.first_work.ensures.same (keeps_kept c.args.now g.sets.sets.items mid.sets.sets.items c.first_work.ensures.sets) since before later stands in
-    stands_noted c.args.now mid n c.note_asked.ensures.same (keeps_noted_for c.args.now c.in-Some.work c.args.message.digest mid.sets.sets.items n.sets.sets.items c.in_ok-noted.noted c.in_ok-noted.ensures.noted) c.args.now before (omega arith) first
+    let first = stands_noted c.args.now g mid c.first_work.ensures.same c.first_work.ensures.sets since before later stands in
+    stands_noted c.args.now mid n c.note_asked.ensures.same (inr (rw c.in-Before.is at c.in_ok-noted.ensures.noted).2.1.1) c.args.now before (omega arith) first
 
 pub returns-in_err-noted-clause-err : goal.returns-in_err-noted-clause-err
 returns-in_err-noted-clause-err c =
@@ -171,14 +174,14 @@ returns-in-NoRoom-clause-takes c since before datagram later digest stands =
     let g = c.args.self.now in
     let mid = c.first_work.new.self in
     let n = c.note_asked.new.self in
-    let first = stands_noted c.args.now g mid c.first_work.ensures.same (keeps_kept c.args.now g.sets.sets.items mid.sets.sets.items c.first_work.ensures.sets) since before later stands in
-    stands_noted c.args.now mid n c.note_asked.ensures.same (keeps_noted_for c.args.now c.in-Some.work c.args.message.digest mid.sets.sets.items n.sets.sets.items c.in_ok-noted.noted c.in_ok-noted.ensures.noted) c.args.now before (omega arith) first
+    let first = stands_noted c.args.now g mid c.first_work.ensures.same c.first_work.ensures.sets since before later stands in
+    stands_noted c.args.now mid n c.note_asked.ensures.same (inr (rw c.in-NoRoom.is at c.in_ok-noted.ensures.noted).2.2) c.args.now before (omega arith) first
 
 pub note_asked-requires : goal.note_asked-requires
 note_asked-requires c = λ set.
     let g = c.args.self.now in
     let well = (rw c.in-Some.is at c.in_ok-work.ensures.begins) c.requires.asks.0 c.requires.asks.1 in
-    (sha256 c.requires.digest.0, c.requires.digest.1 c.requires.asks.0 c.requires.asks.1 (task_asks g.agent.tables g.devices.list.items c.requires.asks.0 c.in-Some.work well set))
+    (sha256 c.requires.digest.0, c.requires.digest.1.set c.requires.asks.0 c.requires.asks.1 (task_asks g.agent.tables g.devices.list.items c.requires.asks.0 c.in-Some.work well set))
 
 pub returns-then-is_full-clause-cause : goal.returns-then-is_full-clause-cause
 returns-then-is_full-clause-cause c = elim c.then-is_full.branch [

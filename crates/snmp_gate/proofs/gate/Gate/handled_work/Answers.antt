@@ -6,6 +6,7 @@ use Rattle.snmp_gate.specs.Devices.{IsDeviceOf}
 use Rattle.snmp_gate.specs.Messages.{question_given}
 use Rattle.snmp_gate.specs.Question.{Question}
 use Rattle.snmp_gate.proofs.Asked.{asked_with}
+use Rattle.snmp_gate.proofs.Knowing.{no_set_known}
 use Rattle.snmp_gate.proofs.gate.Gate.handled_work.Goals as goal
 
 pub returns-then-pdu_of-tag-clause-begins : goal.returns-then-pdu_of-tag-clause-begins
@@ -14,7 +15,7 @@ returns-then-pdu_of-tag-clause-begins c q asked =
     let client = c.args.message.now.client.items in
     let given = ap (question_given client) c.taken-taken.ensures ∙ asked in
     let context = ap (λ (x : Question). x.context) (asked_with client (given_of c.taken-taken.result) (contexts_of c.scoped.result) q c.scoped.ensures given).1 in
-    c.work_of-work.ensures.begins g.agent.tables g.devices.list.items q (λ told nothing. c.in_ok-onward.ensures client q told nothing given)
+    c.work_of-work.ensures.begins g.agent.tables g.devices.list.items q (λ told nothing. c.in_ok-onward.ensures.stands client q told nothing given)
     (subst (λ (name : List ℕ). IsDeviceOf g.devices.list.items name c.in-Some.device) context c.in-Some.ensures.found)
 
 pub returns-in-Onward-clause-begins : goal.returns-in-Onward-clause-begins
@@ -27,3 +28,13 @@ returns-in-Onward-clause-begins c q asked =
     c.work_of.ensures.begins g.agent.tables g.devices.list.items q
     (λ (told : Said) nothing. (rw c.in-Onward.is at c.in_ok-onward-2.ensures.begins q asked set) told nothing)
     (subst (λ (name : List ℕ). IsDeviceOf g.devices.list.items name c.in-Some.device) context c.in-Some.ensures.found)
+
+pub returns-then-pdu_of-tag-clause-known : goal.returns-then-pdu_of-tag-clause-known
+returns-then-pdu_of-tag-clause-known c =
+    let digest = c.args.message.now.digest in
+    let sets = c.args.self.now.sets.sets.items in
+    c.work_of-work.ensures.known digest sets (no_set_known c.args.now digest sets c.in_ok-onward.onward c.in_ok-onward.ensures.first)
+
+pub returns-in-Onward-clause-known : goal.returns-in-Onward-clause-known
+returns-in-Onward-clause-known c =
+    c.work_of.ensures.known c.args.message.now.digest c.args.self.now.sets.sets.items (rw c.in-Onward.is at c.in_ok-onward-2.ensures.known)

@@ -1,6 +1,7 @@
-use Rattle.std.proofs.Common.{arith, ap, HoldsAt, refl, subst, sym}
+use Rattle.std.proofs.Common.{arith, ap, HoldsAt, refl, subst, sym, ◌∙◌}
 use Rattle.std.specs.Prelude.{List, ◌∷◌, ◌≡◌, ◌<◌, length}
-use Rattle.snmp_gate.specs.Groups.{groups_of}
+use Rattle.snmp_gate.specs.Beginning.{MayBeJoined}
+use Rattle.snmp_gate.specs.Groups.{Group, group_of, groups_of}
 use Rattle.snmp_gate.specs.History.{accepted}
 use Rattle.snmp_gate.specs.Messages.{question_in}
 use Rattle.snmp_agent.specs.Agent.{AgentState}
@@ -10,17 +11,18 @@ use Rattle.snmp_gate.specs.declared.requests.WaitingRequest.{WaitingRequest}
 use Rattle.snmp_gate.specs.declared.waiting_message.WaitingMessage.{WaitingMessage}
 use Rattle.snmp_gate.specs.declared.work.Work.{Work}
 use Rattle.std.specs.Global.{Vec}
-use Rattle.snmp_gate.specs.Waiting.{AsksStand, SetsStand, asks_in}
+use Rattle.snmp_gate.specs.Waiting.{AsksStand, OutcomesStand, SetsStand, asks_in}
 use Rattle.snmp_gate.specs.declared.asks.DeviceAsks.{DeviceAsks}
 use Rattle.snmp_gate.proofs.AsksKept.{asks_same}
-use Rattle.snmp_gate.proofs.GroupSteps.{on_err}
+use Rattle.snmp_gate.proofs.GroupSteps.{group_at, on_err}
+use Rattle.std.proofs.lemmas.List.{get_or_default}
 use Rattle.snmp_gate.proofs.Histories.{moved}
 use Rattle.snmp_gate.specs.declared.gate.Gate.{Gate}
 use Rattle.snmp_gate.specs.declared.requests.Joined.TheVariants.{Joined}
 use Rattle.snmp_gate.proofs.Bounded.{agent_same, bounded_joined, stays_forgotten, stays_noted, stays_on, stays_requests}
 use Rattle.snmp_gate.proofs.Keeping.{forgotten, keeps_no_room, keeps_repeated, same_before, stands_noted}
 use Rattle.snmp_gate.proofs.SetsComing.{joined_sets}
-use Rattle.snmp_gate.proofs.SetsKept.{keeps_noted_again}
+use Rattle.snmp_gate.proofs.Repeating.{joined_outcomes}
 use Rattle.snmp_gate.proofs.Joining.{joined_all, joins_in_turn, request_asks}
 use Rattle.snmp_gate.proofs.Untaken.{again_before, again_full, full_of_messages}
 use Rattle.snmp_gate.proofs.gate.Gate.join.Goals as goal
@@ -35,10 +37,10 @@ returns-in-Ok-Joined-clause-takes c since before datagram later digest stands =
     let r = c.index.result.now in
     let note = c.note_again.ensures.same in
     let new = groups_of c.join.new.self.list.items in
-    let same = subst (λ (x : List (WaitingRequest WaitingMessage Work)). HoldsAt (λ (y : WaitingRequest WaitingMessage Work). question_in y.first ≡ question_in m) x place)
+    let same = subst (λ (x : List (WaitingRequest WaitingMessage Work)). HoldsAt (λ (y : WaitingRequest WaitingMessage Work). (question_in y.first ≡ question_in m) × MayBeJoined y.work) x place)
     (sym (ap (λ (x : WaitingRequests WaitingMessage Work). x.list.items) note.requests)) c.requires.same in
     let within = subst (λ (x : WaitingRequests WaitingMessage Work). place < length x.list.items) (sym note.requests) c.requires.place in
-    let asks = subst (λ (x : WaitingRequest WaitingMessage Work). question_in x.first ≡ question_in m) (sym c.index.ensures) (same r) in
+    let asks = subst (λ (x : WaitingRequest WaitingMessage Work). question_in x.first ≡ question_in m) (sym c.index.ensures) (same r).0 in
     let requests = moved g.agent.tables n.agent.tables g.devices.list.items n.devices.list.items before g.requests.next n.requests.next (groups_of g.requests.list.items) (groups_of rs)
     (ap (λ (x : AgentState). x.tables) note.agent)
     (ap (λ (x : Devices). x.list.items) note.devices)
@@ -55,6 +57,9 @@ returns-in-Ok-Joined-clause-takes c since before datagram later digest stands =
         asks = asks_same (accepted r.number c.args.now datagram m) before (asks_in n.asks.items) (λ k. refl) (subst (λ (v : Vec DeviceAsks). AsksStand before (asks_in v.items)) (sym note.asks) stands.asks);
         sets = joined_sets n.agent.tables n.devices.list.items before n.requests.next rs place n.requests.most_messages r m new since c.args.now datagram g.sets.sets.items n.sets.sets.items within c.index.ensures
             (request_asks n.agent.tables n.devices.list.items before n.requests.next rs place r within c.index.ensures requests) asks joins digest later (rw c.in-New.is at c.in_ok-note_again.ensures.noted) requests known;
+        outcomes = joined_outcomes n.requests.most_messages r.number c.args.now place datagram m before (groups_of rs) new g.sets.sets.items n.sets.sets.items digest (rw c.in-New.is at c.in_ok-note_again.ensures.noted) joins
+            (λ y at. subst (λ (x : Group WaitingMessage Work). MayBeJoined x.work) (sym (at.group_is ∙ get_or_default (groups_of rs) place y (group_of r) at.within ∙ sym (group_at rs place r within c.index.ensures).group_is)) (subst (λ (x : WaitingRequest WaitingMessage Work). MayBeJoined x.work) (sym c.index.ensures) (same r).1))
+            (subst (λ (x : WaitingRequests WaitingMessage Work). OutcomesStand before (groups_of x.list.items) g.sets.sets.items) (sym note.requests) stands.outcomes);
       },
     )
 
@@ -64,12 +69,12 @@ returns-in_err-note_again-clause-err c = on_err c.from_residual.result _ (same_b
 pub returns-in-Repeated-clause-takes : goal.returns-in-Repeated-clause-takes
 returns-in-Repeated-clause-takes c since before datagram later digest stands =
     stands_noted c.args.now c.args.self.now c.note_again.new.self c.note_again.ensures.same
-    (keeps_noted_again c.args.now c.args.message.digest c.args.self.now.sets.sets.items c.note_again.new.self.sets.sets.items _ c.in_ok-note_again.ensures.noted) since before later stands
+    (keeps_repeated c.args.now c.args.message.digest c.args.self.now.sets.sets.items c.note_again.new.self.sets.sets.items _ (rw c.in-Repeated.is at c.in_ok-note_again.ensures.noted)) since before later stands
 
 pub returns-in-NoRoom-clause-takes : goal.returns-in-NoRoom-clause-takes
 returns-in-NoRoom-clause-takes c since before datagram later digest stands =
     stands_noted c.args.now c.args.self.now c.note_again.new.self c.note_again.ensures.same
-    (keeps_noted_again c.args.now c.args.message.digest c.args.self.now.sets.sets.items c.note_again.new.self.sets.sets.items _ c.in_ok-note_again.ensures.noted) since before later stands
+    (keeps_no_room c.args.now c.args.message.digest c.args.self.now.sets.sets.items c.note_again.new.self.sets.sets.items (rw c.in-NoRoom.is at c.in_ok-note_again.ensures.noted)) since before later stands
 
 pub returns-in-Ok-NoRoom-clause-takes : goal.returns-in-Ok-NoRoom-clause-takes
 returns-in-Ok-NoRoom-clause-takes c since before datagram later digest stands =

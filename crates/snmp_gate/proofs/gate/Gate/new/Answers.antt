@@ -1,4 +1,5 @@
 use Rattle.snmp_gate.proofs.AsksKept.{asks_first}
+use Rattle.snmp_gate.proofs.Repeating.{outcomes_first}
 use Rattle.snmp_gate.proofs.SetsKept.{nothing_stands, sets_first}
 use Rattle.snmp_gate.proofs.gate.Gate.new.Goals as goal
 
@@ -7,4 +8,5 @@ returns-clause-stands c = record {
   requests = nothing_stands c.args.agent.tables c.args.devices.list.items c.new.result.next c.new.result.list.items c.new.ensures.list;
   asks = asks_first c.in_ok-asks.asks.items c.in_ok-asks.ensures.none;
   sets = sets_first c.new.result.list.items c.new-2.result.sets.items;
+  outcomes = outcomes_first c.new.result.list.items c.new-2.result.sets.items c.new.ensures.list c.new-2.ensures;
 }

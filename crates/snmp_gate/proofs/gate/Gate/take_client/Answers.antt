@@ -13,7 +13,6 @@ use Rattle.snmp_gate.proofs.Coming.{message_happens, no_refusal, same_stands}
 use Rattle.snmp_gate.proofs.GroupSteps.{on_err}
 use Rattle.snmp_gate.proofs.Keeping.{as_before, as_before_same, if_err, stands_kept}
 use Rattle.snmp_gate.proofs.Sending.{on_ok}
-use Rattle.snmp_gate.proofs.SetsKept.{keeps_same}
 use Rattle.snmp_gate.proofs.Untaken.{cause_of}
 use Rattle.snmp_gate.proofs.gate.Gate.take_client.Goals as goal
 
@@ -74,7 +73,7 @@ pub returns-in-Err-2-clause-happens : goal.returns-in-Err-2-clause-happens
 returns-in-Err-2-clause-happens c since before later stands =
     let g = c.args.self.now in
     stands_kept c.args.now g (record g { agent = c.take.new.self }) (same_tables g.agent c.take.new.self (c.args.now / 1000) c.args.datagram.now (refusal_answer c.in-Err.refused.why.refusal) c.in-Err.ensures.takes) refl refl refl refl
-    (keeps_same c.args.now g.sets.sets.items g.sets.sets.items refl) since before later stands
+    (inl refl) since before later stands
 
 pub returns-in_err-message-clause-err : goal.returns-in_err-message-clause-err
 returns-in_err-message-clause-err c =
@@ -103,13 +102,13 @@ pub returns-in-Some-clause-cause : goal.returns-in-Some-clause-cause
 returns-in-Some-clause-cause c =
     let g = c.args.self.now in
     let mid : Gate = record g { agent = c.take.new.self } in
-    on_ok c.join.result _ _ (cause_of c.args.now g mid c.in_ok-message.message.digest (sha256 c.args.datagram.now) refl refl c.in_ok-message.ensures.own) c.join.ensures.cause
+    on_ok c.join.result _ _ (cause_of c.args.now g mid c.in_ok-message.message.digest (sha256 c.args.datagram.now) refl refl c.in_ok-message.ensures.digest.own) c.join.ensures.cause
 
 pub returns-in-None-clause-cause : goal.returns-in-None-clause-cause
 returns-in-None-clause-cause c =
     let g = c.args.self.now in
     let mid : Gate = record g { agent = c.take.new.self } in
-    on_ok c.begin.result _ _ (cause_of c.args.now g mid c.in_ok-message.message.digest (sha256 c.args.datagram.now) refl refl c.in_ok-message.ensures.own) c.begin.ensures.cause
+    on_ok c.begin.result _ _ (cause_of c.args.now g mid c.in_ok-message.message.digest (sha256 c.args.datagram.now) refl refl c.in_ok-message.ensures.digest.own) c.begin.ensures.cause
 
 pub returns-in-Err-2-clause-untaken : goal.returns-in-Err-2-clause-untaken
 returns-in-Err-2-clause-untaken c untaken = absurd untaken

@@ -1,4 +1,4 @@
-use Rattle.std.proofs.Common.{None, inl, refl, subst, sym, ◌∙◌}
+use Rattle.std.proofs.Common.{None, inl, refl, subst, sym, ℕ, ◌≡◌, ◌∙◌}
 use Rattle.snmp_msg.specs.Pdu.{pdu_of}
 use Rattle.vacm_core.specs.Tables.{Tables}
 use Rattle.std.specs.List.{HoldsAt}
@@ -8,14 +8,16 @@ use Rattle.snmp_gate.specs.declared.devices.Device.{Device}
 use Rattle.snmp_gate.specs.Work.{TaskStands}
 use Rattle.snmp_gate.specs.declared.requests.WaitingRequest.{WaitingRequest}
 use Rattle.snmp_gate.specs.declared.waiting_message.WaitingMessage.{WaitingMessage}
+use Rattle.snmp_gate.specs.declared.work.OpenRequest.{OpenRequest}
 use Rattle.snmp_gate.specs.declared.work.Work.{Work}
+use Rattle.snmp_gate.specs.declared.work.Work.TheVariants.{Open, Ends}
 use Rattle.snmp_gate.proofs.Bounded.{agent_same, asks_set, bounded_set, ended_few, fresh_timely, same_timely, stays_of, stays_requests}
 use Rattle.snmp_gate.proofs.GroupSteps.{on_err}
 use Rattle.snmp_gate.proofs.Histories.{answered_all}
 use Rattle.snmp_gate.proofs.AsksKept.{answered_asks, same_id}
 use Rattle.snmp_gate.proofs.Keeping.{stands_later}
 use Rattle.snmp_gate.proofs.Others.{chosen, open_other}
-use Rattle.snmp_gate.proofs.SetsGoing.{answered_sets, kept_stands}
+use Rattle.snmp_gate.proofs.SetsGoing.{answered_outcomes, answered_sets, kept_stands}
 use Rattle.snmp_gate.proofs.Same.{same_messages, work_says_same_at}
 use Rattle.snmp_gate.proofs.Todos.{timely_set}
 use Rattle.std.proofs.lemmas.List.{get_or_default}
@@ -23,6 +25,11 @@ use Rattle.snmp_gate.specs.Fits.{FitsRequest, WorkFits}
 use Rattle.snmp_gate.specs.Hidden.{HidesInRequest, WorkHides}
 use Rattle.snmp_gate.specs.Messages.{seen_in}
 use Rattle.snmp_gate.proofs.gate.Gate.take_device.Goals as goal
+
+-- a request whose device is asked is open
+opened : (device id : ℕ) (w : Work) → WaitsFor device id w → (o : OpenRequest) × (w ≡ Open o)
+opened device id (Open o) is = (o, refl)
+opened device id (Ends e) is = absurd is
 
 pub returns-clause-happens : goal.returns-clause-happens
 returns-clause-happens c since before later stands =
@@ -46,13 +53,15 @@ returns-clause-happens c since before later stands =
       pdu_of c.in-Some.answer.pdu,
       record {
         lawful = record { mediated = both.0; in_turn = tt; own_id = tt; once = tt };
-        tried = tt;
+        allowed = tt;
         stands = record {
           requests = both.1;
           asks = answered_asks now before r.number c.args.device id g.asks.items c.index_mut.result.now c.end.new.self c.end.result
               (chosen r.number None (open_ask r.number before)) (λ k other. open_other now before k other) c.in-Some-place_of.ensures.asks c.index_mut.ensures.value c.end.ensures.ended
               both.0.ask both.0.is_open both.0.device_is (same_id both.0.ask.id id (sym both.0.id_is ∙ at.id_is)) stands.asks;
           sets = answered_sets since c.args.now r.number c.args.device (pdu_of c.in-Some.answer.pdu) c.args.datagram.now before rs place r s g.sets.sets.items later at.within c.index_mut-request.ensures.value refl c.in_ok-fault.ensures.no_set stands.sets;
+          outcomes = answered_outcomes r.number c.args.device (pdu_of c.in-Some.answer.pdu) c.args.datagram.now before rs place r s g.sets.sets.items at.within c.index_mut-request.ensures.value
+              (let o = opened c.args.device id r.work waits in c.in_ok-fault.ensures.first o.0 o.1) stands.outcomes;
         };
       },
     )
