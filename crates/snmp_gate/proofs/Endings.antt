@@ -11,7 +11,7 @@ use Rattle.snmp_msg.specs.declared.pdu_type.PduType.TheVariants.{SetRequest}
 use Rattle.snmp_gate.specs.declared.task.Task.TheVariants as task
 use Rattle.vacm_core.specs.Tables.{Tables}
 use Rattle.snmp_gate.specs.Said.{Said}
-use Rattle.snmp_gate.specs.Ends.{EndsSet, FailsOrGoesOn, IsEndFor}
+use Rattle.snmp_gate.specs.Ends.{EndsSet, ErrsSo, FailsOrGoesOn, IsEndFor}
 use Rattle.snmp_gate.specs.Taking.{WorkAfter}
 use Rattle.snmp_gate.specs.declared.work.OpenRequest.{OpenRequest}
 use Rattle.snmp_gate.specs.declared.work.RequestEnd.{RequestEnd}
@@ -23,21 +23,22 @@ use Rattle.snmp_gate.specs.Question.{Question}
 use Rattle.snmp_gate.specs.declared.onward.AnswerTaken.{AnswerTaken}
 use Rattle.snmp_gate.specs.declared.onward.AnswerTaken.TheVariants.{Ends, Front, GoesOn, Unfit}
 
-pub fails_end : (q : Question) (told : Said) (taken : AnswerTaken) → (q.tag ≡ pdu_tag SetRequest → ⊥) → FailsOrGoesOn taken → IsEndFor q told taken
-fails_end q told (Ends says) read fails = record { no_error = λ same. absurd (fails same); set = λ is_set. absurd (read is_set) }
-fails_end q told Front read fails = tt
-fails_end q told GoesOn read fails = tt
-fails_end q told (Unfit why) read fails = read
+pub fails_end : (tables : Tables) (q : Question) (told : Said) (taken : AnswerTaken) → (q.tag ≡ pdu_tag SetRequest → ⊥) → FailsOrGoesOn taken → ErrsSo tables q told taken → IsEndFor tables q told taken
+fails_end tables q told (Ends says) read fails errs = record { read = λ no_set. errs; no_error = λ same. absurd (fails same); set = λ is_set. absurd (read is_set) }
+fails_end tables q told Front read fails errs = tt
+fails_end tables q told GoesOn read fails errs = tt
+fails_end tables q told (Unfit why) read fails errs = read
 
 -- a Set that ends without an error was done
 set_ends : (tables : Tables) (q : Question) (told : Said) (answer : Pdu) (says : ResponseStatus) → SaysAll (request_of_task q task.Set) answer told → TaskStands tables q told task.Set → IsToldStatus answer.second says.status
-    → IsOwnStatus q told None says
+    → IsOwnStatus tables q told None says
 set_ends tables q told answer says all stands is = record {
+  read = λ no_set. absurd (no_set stands.tag);
   no_error = λ none. stands.tag;
   set = λ is_set. inr (inr (record { exchange = record { asked = request_of_task q task.Set; answer = pdu_of answer }; there = all.exchange; set = refl; told = is }));
 }
 
-pub set_taken : (tables : Tables) (q : Question) (told : Said) (answer : Pdu) (taken : AnswerTaken) → SaysAll (request_of_task q task.Set) answer told → TaskStands tables q told task.Set → EndsSet answer taken → IsEndFor q told taken
+pub set_taken : (tables : Tables) (q : Question) (told : Said) (answer : Pdu) (taken : AnswerTaken) → SaysAll (request_of_task q task.Set) answer told → TaskStands tables q told task.Set → EndsSet answer taken → IsEndFor tables q told taken
 set_taken tables q told answer (Ends says) all stands is = set_ends tables q told answer says all stands is.status
 set_taken tables q told answer Front all stands is = absurd is
 set_taken tables q told answer GoesOn all stands is = absurd is

@@ -43,6 +43,7 @@ use Rattle.snmp_gate.specs.Limits.{asks_since}
 use Rattle.snmp_gate.specs.Question.{Question}
 use Rattle.snmp_gate.specs.Time.{times_asked}
 use Rattle.snmp_gate.specs.Waiting.{AllCameFrom, AreNumbered, GroupStands, GroupsStand, OpenStands, RequestsStand, WorkStands}
+use Rattle.snmp_gate.specs.ReadErrors.{too_big as too_big_error}
 use Rattle.snmp_gate.specs.Work.{EndingStands, SaysAll, TaskStands, again_of, end_of, request_of_task}
 use Rattle.snmp_gate.specs.declared.devices.Device.{Device}
 use Rattle.snmp_gate.specs.declared.waiting_message.WaitingMessage.{WaitingMessage}
@@ -659,4 +660,4 @@ given_up_ends tables _ is q told = absurd is
 
 -- tooBig may be told of any request
 pub too_long : (tables : Tables) (q : Question) (told : Said) → EndingStands tables q told (ending.Own (record { status = TOO_BIG; index = pos 0 }))
-too_long tables q told = record { no_error = λ is. absurd (false≢true ((Decides-int_eq TOO_BIG NO_ERROR).1 is)); set = λ is_set. inl refl }
+too_long tables q told = record { read = λ no_set. too_big_error refl refl; no_error = λ is. absurd (false≢true ((Decides-int_eq TOO_BIG NO_ERROR).1 is)); set = λ is_set. inl refl }

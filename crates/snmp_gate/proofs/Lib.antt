@@ -9,6 +9,7 @@ pub mod SetMemory
 pub mod Tags
 pub mod Timers
 pub mod ReadNames
+mod Erring
 mod Knowing
 mod Repeating
 pub mod Contexts

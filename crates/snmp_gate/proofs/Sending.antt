@@ -15,9 +15,13 @@ use Rattle.usm_core.specs.Sealed.{Sending}
 use Rattle.usm_core.specs.Table.{holds}
 use Rattle.snmp_outgoing.specs.Fronts.{FrontText}
 use Rattle.snmp_agent.specs.Sent.{Sends, SendsFront}
-use Rattle.std.proofs.Common.{ap, arith, subst, take, ℤ}
+use Rattle.std.specs.Global.{Vec}
+use Rattle.std.proofs.Common.{ap, arith, inl, inr, subst, sym, take, ℤ}
+use Rattle.snmp_gate.specs.Counting.{CountsReply, CountsSent, CountsUnhandled}
 use Rattle.snmp_gate.specs.Limits.{IsLimit, IsShortFor, IsShortReply, IsShortReplyFor}
 use Rattle.snmp_gate.specs.Replies.{Answering, IsSent, SameAgent}
+use Rattle.snmp_gate.specs.Sending.{IsSentBy}
+use Rattle.snmp_gate.specs.declared.gate.Sent.{Sent}
 use Rattle.snmp_gate.specs.declared.limits.GateLimits.{GateLimits}
 use Rattle.snmp_gate.specs.declared.reply.Reply.{Reply}
 use Rattle.snmp_gate.specs.declared.reply.Reply.TheVariants as reply
@@ -44,6 +48,11 @@ counted a b why is = record {
 pub refused_same : (old new : AgentState) (now : ℕ) (g : Given) (p : PduParts) (why : Unhandled) (salt : List ℕ) (report : Option (List ℕ)) → Refuses old now g p why salt (Ok report) new → SameAgent old new
 refused_same old new now g p why salt None is = counted old new why is.1
 refused_same old new now g p why salt (Some text) is = counted old new why is.1
+
+-- and counts why
+pub refused_counts : (old new : AgentState) (now : ℕ) (g : Given) (p : PduParts) (why : Unhandled) (salt : List ℕ) (report : Option (List ℕ)) → Refuses old now g p why salt (Ok report) new → CountsUnhandled old new
+refused_counts old new now g p why salt None is = (why, is.1)
+refused_counts old new now g p why salt (Some text) is = (why, is.1)
 
 -- the front that was sent
 pub front_sent : (agent : AgentState) (now limit : ℕ) (message : BootsAndTime → List Variable → Sending) (vs : List Variable) (f : FrontText)
@@ -92,3 +101,11 @@ on_some None P Q f p = tt
 pub on_both : {T E : Type 0} (r : Result T E) (P Q : T → Type 0) → IfOk r P → IfOk r Q → IfOk r (λ x. P x × Q x)
 on_both (Ok x) P Q p q = (p, q)
 on_both (Err e) P Q p q = tt
+
+-- what is counted of what goes out is what is counted of what became of the message
+pub counts_sent : (old new : AgentState) (number : ℕ) (client : Vec ℕ) (r : Reply) (sent : Sent) → IsSentBy number client r sent → CountsReply old new r → CountsSent old new sent
+counts_sent old new number client (reply.Responds says datagram) sent is counts = subst (CountsSent old new) (sym is) counts
+counts_sent old new number client (reply.Reports datagram) sent is counts = subst (CountsSent old new) (sym is) counts
+counts_sent old new number client reply.Nothing sent is counts = subst (CountsSent old new) (sym is) (elim counts [ inl same ↦ inl same | inr more ↦ inr (inl more) ])
+counts_sent old new number client reply.SilentDrop sent is counts = subst (CountsSent old new) (sym is) (inr (inr counts))
+counts_sent old new number client (reply.Refused why) sent is counts = subst (CountsSent old new) (sym is) counts

@@ -169,7 +169,7 @@ bulk_names (c ∷ cs) = here c.progress (bulk_names cs)
     here Hidden rest = rest
     here Ended rest = rest
 
-requests_long : (n most : ℕ) (vs : List Variable) → length (bulk_requests_of n most vs) ≡ length vs
+pub requests_long : (n most : ℕ) (vs : List Variable) → length (bulk_requests_of n most vs) ≡ length vs
 requests_long n most vs =
     let once : Variable → List ℕ × ℕ = λ v. (v.name, 1) in
     let again : Variable → List ℕ × ℕ = λ v. (v.name, most) in

@@ -1,5 +1,5 @@
 -- What may be told of a request.
-use Rattle.std.specs.Prelude.{◌≡◌, ◌≢◌, ◌⊎◌, Bool, true, false, ◌∷◌, ℕ, ℤ, zero, suc, pos, List, [], All, Contains, map, take, drop, Option, Some}
+use Rattle.std.specs.Prelude.{◌≡◌, ◌≢◌, ◌⊎◌, Bool, true, false, ◌∷◌, ℕ, ℤ, zero, suc, pos, List, [], All, Contains, map, take, drop, Option, Some, length}
 use Rattle.std.specs.List.{AllZip}
 use Rattle.std.proofs.Common.{refl, inl, inr, sym, ap, subst, ◌∙◌, arith}
 use Rattle.std.proofs.lemmas.Bool.{false≢true}
@@ -34,6 +34,7 @@ use Rattle.gateway_laws.proofs.Lists.{all_shown}
 use Rattle.snmp_gate.specs.Messages.{question_given, seen_in}
 use Rattle.snmp_gate.specs.Question.{Question}
 use Rattle.snmp_gate.specs.ReadAsks.{read_type}
+use Rattle.snmp_gate.specs.ReadErrors.{IsIndexAmong, IsReadError, gen_err, too_big as too_big_error}
 use Rattle.snmp_gate.specs.Replies.{Answering, IsFrontSentOr, IsOwnList, IsReportedOr, IsReplyTo, IsSentOr, MayTell, MayTellBulk, Told, columns, front, set, told_with, too_big, without_error}
 use Rattle.snmp_gate.specs.Said.{AreTrue, IsSetStatus, IsUnasked, Said}
 use Rattle.snmp_gate.specs.Work.{BulkStandsFor, IsOwnStatus}
@@ -55,15 +56,15 @@ signed_tells a b = elim (true_or_false (int_eq a b)) [
 -- ---- the request's own bindings
 
 may_tell_too_big : (tables : Tables) (q : Question) (said : Said) (again : Option ResponseStatus) → MayTell tables q said again too_big
-may_tell_too_big tables q said again = (λ is_set. inl refl, inr (inr (refl, refl)))
+may_tell_too_big tables q said again = ((λ is_set. inl refl, λ no_set error. too_big_error refl refl), inr (inr (refl, refl)))
 
-may_tell_own : (tables : Tables) (q : Question) (said : Said) (again : Option ResponseStatus) (says : ResponseStatus) (vs : List Variable) → (says.status ≡ NO_ERROR → q.tag ≡ pdu_tag SetRequest) → (q.tag ≡ pdu_tag SetRequest → IsSetStatus q said again says) → IsOwnList q says.status vs
+may_tell_own : (tables : Tables) (q : Question) (said : Said) (again : Option ResponseStatus) (says : ResponseStatus) (vs : List Variable) → (says.status ≡ NO_ERROR → q.tag ≡ pdu_tag SetRequest) → (q.tag ≡ pdu_tag SetRequest → IsSetStatus q said again says) → (q.tag ≢ pdu_tag SetRequest → IsReadError tables q said says) → IsOwnList q says.status vs
     → MayTell tables q said again (told_with says vs)
-may_tell_own tables q said again says vs own of_set (inl (is, none)) = (of_set, inr (inr (is, none)))
-may_tell_own tables q said again says vs own of_set (inr (is, all)) =
+may_tell_own tables q said again says vs own of_set of_read (inl (is, none)) = ((of_set, λ no_set error. of_read no_set), inr (inr (is, none)))
+may_tell_own tables q said again says vs own of_set of_read (inr (is, all)) =
     elim (signed_tells says.status NO_ERROR) [
-      | inl same ↦ (of_set, inl (same, set (own same) all))
-      | inr other ↦ (of_set, inr (inl (other, all)))
+      | inl same ↦ ((of_set, λ no_set error. of_read no_set), inl (same, set (own same) all))
+      | inr other ↦ ((of_set, λ no_set error. of_read no_set), inr (inl (other, all)))
     ]
 
 -- a request for values is no Set
@@ -83,9 +84,9 @@ sent_reply a tables q said again g told reply.Nothing may sent = tt
 sent_reply a tables q said again g told reply.SilentDrop may sent = tt
 sent_reply a tables q said again g told (reply.Refused why) may sent = tt
 
-pub own_reply : (a : Answering) (tables : Tables) (q : Question) (said : Said) (again : Option ResponseStatus) (g : Given) (says : ResponseStatus) (vs : List Variable) (r : Reply) → IsOwnStatus q said again says → IsOwnList q says.status vs
+pub own_reply : (a : Answering) (tables : Tables) (q : Question) (said : Said) (again : Option ResponseStatus) (g : Given) (says : ResponseStatus) (vs : List Variable) (r : Reply) → IsOwnStatus tables q said again says → IsOwnList q says.status vs
     → IsSentOr a g (told_with says vs) r → IsReplyTo a tables q said again g r
-own_reply a tables q said again g says vs r own list sent = sent_reply a tables q said again g (told_with says vs) r (may_tell_own tables q said again says vs own.no_error own.set list) sent
+own_reply a tables q said again g says vs r own list sent = sent_reply a tables q said again g (told_with says vs) r (may_tell_own tables q said again says vs own.no_error own.set own.read list) sent
 
 -- ---- a binding of each column
 
@@ -109,7 +110,7 @@ pub columns_reply : (a : Answering) (tables : Tables) (q : Question) (said : Sai
     → ((device : Known) → IsDevice device → AreTrue device said → AllTrack device (seen_in tables q) cs) → IsSentOr a g (without_error (map variable_of bs)) r → IsReplyTo a tables q said again g r
 columns_reply a tables q said again g o cs bs r tag same zip shown tracks sent =
     sent_reply a tables q said again g (without_error (map variable_of bs)) r (
-      λ is_set. absurd (no_read q o tag is_set),
+      (λ is_set. absurd (no_read q o tag is_set), λ no_set error. absurd (error refl)),
       inl (
         refl,
         columns o tag (zip_shows (seen_in tables q) said.variables o cs (variables_of q.list) bs same zip)
@@ -173,7 +174,7 @@ front_reply a tables q said again g d bs (reply.Responds says datagram) stands a
     inl (
       without_error (take n (map variable_of bs)),
       sent,
-      (λ is_set. absurd (no_bulk q stands.tag is_set), inl (refl, front stands.tag (All-take (MayTellBulk (seen_in tables q) said.variables (variables_of q.list)) n (map variable_of bs) (All-weaker (IsShownOf (seen_in tables q) said.variables d.columns.items) (MayTellBulk (seen_in tables q) said.variables (variables_of q.list)) may (map variable_of bs) all)) d.non_repeaters d.max_repetitions stands.first stands.most law)),
+      ((λ is_set. absurd (no_bulk q stands.tag is_set), λ no_set error. absurd (error refl)), inl (refl, front stands.tag (All-take (MayTellBulk (seen_in tables q) said.variables (variables_of q.list)) n (map variable_of bs) (All-weaker (IsShownOf (seen_in tables q) said.variables d.columns.items) (MayTellBulk (seen_in tables q) said.variables (variables_of q.list)) may (map variable_of bs) all)) d.non_repeaters d.max_repetitions stands.first stands.most law)),
     )
 front_reply a tables q said again g d bs (reply.Responds says datagram) stands all is_front (inr sent) = inl (too_big, sent, may_tell_too_big tables q said again)
 front_reply a tables q said again g d bs (reply.Reports datagram) stands all is_front sent = absurd sent
@@ -189,11 +190,12 @@ report_reply a tables q said again g reply.SilentDrop is = tt
 report_reply a tables q said again g (reply.Refused why) is = tt
 
 -- genErr may be told of any request for values
-pub gen_err_told : (q : Question) (said : Said) (again : Option ResponseStatus) (says : ResponseStatus) → says.status ≡ GEN_ERR → (q.tag ≡ pdu_tag SetRequest → ⊥) → IsOwnStatus q said again says
-gen_err_told q said again says is read = record { no_error = λ none. absurd (false≢true ((Decides-int_eq GEN_ERR NO_ERROR).1 (sym is ∙ none))); set = λ is_set. absurd (read is_set) }
+pub gen_err_told : (tables : Tables) (q : Question) (said : Said) (again : Option ResponseStatus) (says : ResponseStatus) → says.status ≡ GEN_ERR → IsIndexAmong says.index (length (variables_of q.list)) → (q.tag ≡ pdu_tag SetRequest → ⊥)
+    → IsOwnStatus tables q said again says
+gen_err_told tables q said again says is index read = record { read = λ no_set. gen_err is index; no_error = λ none. absurd (false≢true ((Decides-int_eq GEN_ERR NO_ERROR).1 (sym is ∙ none))); set = λ is_set. absurd (read is_set) }
 
-pub unwritten : (q : Question) (said : Said) (again : Option ResponseStatus) → (q.tag ≡ pdu_tag SetRequest → ⊥) → IsOwnStatus q said again (record { status = pos 5; index = pos 0 })
-unwritten q said again read = gen_err_told q said again (record { status = pos 5; index = pos 0 }) refl read
+pub unwritten : (tables : Tables) (q : Question) (said : Said) (again : Option ResponseStatus) → (q.tag ≡ pdu_tag SetRequest → ⊥) → IsOwnStatus tables q said again (record { status = pos 5; index = pos 0 })
+unwritten tables q said again read = gen_err_told tables q said again (record { status = pos 5; index = pos 0 }) refl (inl refl) read
 
 pub of_message : (a : Answering) (tables : Tables) (q : Question) (said : Said) (again : Option ResponseStatus) (g kept : Given) (client : List ℕ) (r : Reply) → g ≡ kept → (question_given client g ≡ Some q → IsReplyTo a tables q said again g r)
     → question_given client kept ≡ Some q → IsReplyTo a tables q said again kept r
@@ -201,5 +203,5 @@ of_message a tables q said again g kept client r same replies asked =
     subst (λ (x : Given). IsReplyTo a tables q said again x r) same (replies (ap (question_given client) same ∙ asked))
 
 -- a Response may say what one said before
-pub repeated_status : (q : Question) (said : Said) (says : ResponseStatus) → (q.tag ≡ pdu_tag SetRequest) × IsUnasked said → IsOwnStatus q said (Some says) says
-repeated_status q said says stands = record { no_error = λ none. stands.0; set = λ is. inr (inl (stands.1, inr refl)) }
+pub repeated_status : (tables : Tables) (q : Question) (said : Said) (says : ResponseStatus) → (q.tag ≡ pdu_tag SetRequest) × IsUnasked said → IsOwnStatus tables q said (Some says) says
+repeated_status tables q said says stands = record { read = λ no_set. absurd (no_set stands.0); no_error = λ none. stands.0; set = λ is. inr (inl (stands.1, inr refl)) }

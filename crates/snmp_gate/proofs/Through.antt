@@ -63,7 +63,7 @@ tells_set tables q said again by g answer set_is some (inr report) = inl report
 tells_set tables q said again by g answer set_is some (inl (told, out, (status, variables))) = inr (
   told,
   out,
-  elim (status set_is) [
+  elim (status.0 set_is) [
     | inl big ↦ inl big
     | inr (inl none) ↦ absurd (omega (arith, some, ap (λ (rs : List RequestPdu). length rs) none.0))
     | inr (inr says) ↦ inr says
@@ -87,7 +87,7 @@ done_so tables q said again by g answer says set_is is done Again told_so (inr r
 done_so tables q said again by g answer says set_is is done Again told_so (inl (told, out, (status, variables))) =
     let same : status_in told ≡ says = one_some (status_in told) says (sym out.1 ∙ is) in
     let none : told.status ≡ NO_ERROR = ap (λ (s : ResponseStatus). s.status) same ∙ done in
-    elim (status set_is) [
+    elim (status.0 set_is) [
       | inl big ↦ absurd (false≢true ((Decides-int_eq TOO_BIG NO_ERROR).1 (sym big ∙ none)))
       | inr (inl (unasked, inl empty)) ↦ inl (empty none)
       | inr (inl (unasked, inr now)) ↦ inr (inr (subst Again same (subst (λ (o : Option ResponseStatus). IfSome o Again) now told_so)))

@@ -32,5 +32,7 @@ pub mod Noting
 pub mod Runs
 pub mod Due
 pub mod Bounds
+pub mod Counting
 pub mod Limits
 pub mod Untaken
+pub mod ReadErrors

@@ -31,6 +31,7 @@ use Rattle.gateway_laws.specs.Device.{AreAnswered, IsDevice}
 use Rattle.snmp_gate.specs.Messages.{seen_in}
 use Rattle.snmp_gate.specs.Question.{Question}
 use Rattle.snmp_gate.specs.ReadAsks.{read_type}
+use Rattle.snmp_gate.specs.ReadErrors.{IsReadError}
 use Rattle.snmp_gate.specs.Said.{AreTrue, IsSetStatus, Said}
 use Rattle.snmp_gate.specs.declared.reply.Reply.{Reply}
 use Rattle.snmp_gate.specs.declared.reply.Reply.TheVariants as reply
@@ -118,10 +119,11 @@ pub data MayTellValues (tables : Tables) (q : Question) (said : Said) (vs : List
   -- to a SetRequest: its own
   set : q.tag ≡ pdu_tag SetRequest → vs ≡ variables_of q.list → MayTellValues tables q said vs
 
--- of a Set what its device said, or what it said before; and with an error the request's own bindings, or none with
--- tooBig
+-- of a Set what its device said, or what it said before; of another request an error only by its cause; and with an
+-- error the request's own bindings, or none with tooBig
 abbrev pub MayTell : Tables → Question → Said → Option ResponseStatus → Told → Type 0
-MayTell tables q said again told = (q.tag ≡ pdu_tag SetRequest → IsSetStatus q said again (status_in told))
+MayTell tables q said again told = ((q.tag ≡ pdu_tag SetRequest → IsSetStatus q said again (status_in told))
+    × (q.tag ≢ pdu_tag SetRequest → told.status ≢ NO_ERROR → IsReadError tables q said (status_in told)))
     × (((told.status ≡ NO_ERROR) × MayTellValues tables q said told.variables)
     ⊎ (((told.status ≢ NO_ERROR) × (told.variables ≡ variables_of q.list))
     ⊎ ((told.status ≡ TOO_BIG) × (told.variables ≡ []))))

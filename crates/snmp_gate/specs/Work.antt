@@ -27,6 +27,7 @@ use Rattle.gateway_laws.specs.Requests.{RequestPdu}
 use Rattle.gateway_laws.specs.Tracks.{AllTrack}
 use Rattle.snmp_gate.specs.Messages.{seen_in, set_in}
 use Rattle.snmp_gate.specs.Question.{Question}
+use Rattle.snmp_gate.specs.ReadErrors.{IsReadError}
 use Rattle.snmp_gate.specs.ReadAsks.{bulk_request_by, plain_request, read_request, read_type}
 use Rattle.snmp_gate.specs.Said.{AreTrue, IsSetStatus, IsUnasked, Said}
 use Rattle.snmp_gate.specs.declared.onward.Onward.{Onward}
@@ -113,17 +114,18 @@ request_of_task q task.Set = plain_request SetRequest (variables_of q.list)
 
 -- a Response with the request's own bindings has noError only for a SetRequest, and for that what its device said, or
 -- what it says again
-pub record IsOwnStatus (q : Question) (told : Said) (again : Option ResponseStatus) (says : ResponseStatus)
-    : Type 0 where
+pub record IsOwnStatus (tables : Tables) (q : Question) (told : Said) (again : Option ResponseStatus)
+    (says : ResponseStatus) : Type 0 where
   pub no_error : says.status ≡ NO_ERROR → q.tag ≡ pdu_tag SetRequest
   pub set : q.tag ≡ pdu_tag SetRequest → IsSetStatus q told again says
+  pub read : q.tag ≢ pdu_tag SetRequest → IsReadError tables q told says
 
 -- how a request ends
 abbrev pub EndingStands : Tables → Question → Said → RequestEnd → Type 0
 EndingStands tables q told (ending.Columns whole) =
     (operation : ReadOperation) × ReadStands tables q told operation whole.dialogue
 EndingStands tables q told (ending.Front d) = BulkStandsFor tables q told d
-EndingStands tables q told (ending.Own says) = IsOwnStatus q told None says
+EndingStands tables q told (ending.Own says) = IsOwnStatus tables q told None says
 EndingStands tables q told (ending.Repeated says) = (q.tag ≡ pdu_tag SetRequest) × IsUnasked told
 EndingStands tables q told (ending.Unhandled why) = ⊤
 EndingStands tables q told ending.Silent = ⊤

@@ -2,6 +2,7 @@
 
 ghost use Rattle.std.specs.Prelude.{◌≡◌, ◌≢◌, ◌<◌, ◌≤◌, ℕ, List, Some, length, IfOk};
 ghost use Rattle.std.specs.Prelude.{IfSome, OnErr};
+ghost use Rattle.snmp_gate.specs.Counting.{CountsSent};
 ghost use Rattle.snmp_gate.specs.History.{Happening};
 ghost use Rattle.snmp_gate.specs.Sending.{IsAskedAt, IsOpenAt, MayAskAt};
 ghost use Rattle.snmp_gate.specs.Sending.{SetsAsked};
@@ -113,6 +114,7 @@ impl Gate {
             → GateStands since before self.old
             → SendHappens self.old now before (fresh salt ask_id) sent self.new) }
         ensures something { IfOk result (λ sent. sent ≢ Sent.Nothing) }
+        ensures counted { IfOk result (CountsSent self.old.agent self.new.agent) }
         ensures stays { Stays self.old self.new }
         ensures err { OnErr result (IsAsBefore now self.old self.new) }
         ensures same { OnErr result (groups_of self.new.requests.list.items
@@ -144,6 +146,7 @@ impl Gate {
             → GateStands since before self.old
             → SendHappens self.old now before (fresh salt ask_id) sent self.new) }
         ensures something { IfOk result (λ sent. sent ≢ Sent.Nothing) }
+        ensures counted { IfOk result (CountsSent self.old.agent self.new.agent) }
         ensures stays { Stays self.old self.new }
         ensures err { OnErr result (IsAsBefore now self.old self.new) }
     {
@@ -180,6 +183,7 @@ impl Gate {
         ensures happens { IfOk result (λ sent. (since : ℕ) (before : List Happening) (f : Fresh) → since ≤ now
             → GateStands since before self.old → SendHappens self.old now before f sent self.new) }
         ensures something { IfOk result (λ sent. sent ≢ Sent.Nothing) }
+        ensures counted { IfOk result (CountsSent self.old.agent self.new.agent) }
         ensures stays { Stays self.old self.new }
         ensures err { OnErr result (IsAsBefore now self.old self.new) }
     {

@@ -9,6 +9,7 @@ ghost use Rattle.snmp_msg.specs.declared.pdu_type.PduType.TheVariants.{GetBulkRe
 ghost use Rattle.snmp_gate.specs.Question.{Question};
 ghost use Rattle.snmp_gate.specs.Messages.{IsPduOf, IsViewerOf};
 ghost use Rattle.snmp_gate.specs.ReadAsks.{read_type};
+ghost use Rattle.snmp_gate.specs.ReadErrors.{IsCauseOfRefusal};
 ghost use Rattle.snmp_gate.specs.Work.{AsksNoSet, EndingStands, IsToldFirst, OnwardStands};
 ghost use Rattle.snmp_gate.specs.Said.{IsUnasked, Said};
 
@@ -28,7 +29,7 @@ use vacm_core::ViewType;
 /// Returns how a request ends that isn't asked of its device.
 pub(crate) fn ending_of(refusal: AccessRefusal) -> RequestEnd
     ensures stands { (tables : Tables) (q : Question) (told : Said) → IsUnasked told
-        → EndingStands tables q told result }
+        → IsCauseOfRefusal tables q refusal → EndingStands tables q told result }
     ensures first { IsToldFirst result }
 {
     match refusal {

@@ -69,7 +69,7 @@ fn set_access(
     message: &WaitingMessage,
 ) -> Result<SetAccess, AllocError>
     ensures ends { IfOk result (λ access. IfSome access.refused (λ ending. (q : Question) (told : Said)
-        → IsUnasked told → EndingStands tables.now q told ending)) }
+        → IsSet q → IsUnasked told → EndingStands tables.now q told ending)) }
     ensures first { IfOk result (λ access. IfSome access.refused IsToldFirst) }
     ensures may { IfOk result (λ access. (access.refused ≡ None) → (q : Question)
         → question_in message.now ≡ Some q → IsSet q → MaySetAll tables.now q) }

@@ -4,6 +4,7 @@ ghost use Rattle.std.specs.Prelude.{◌≡◌, ◌≢◌, ◌↔◌, ◌<◌, �
 ghost use Rattle.std.specs.Prelude.{IsTrue, OnErr};
 ghost use Rattle.snmp_gate.specs.Question.{Question};
 ghost use Rattle.snmp_gate.specs.Messages.{question_in};
+ghost use Rattle.snmp_gate.specs.Counting.{CountsReply, CountsSent};
 ghost use Rattle.snmp_gate.specs.History.{Happening};
 ghost use Rattle.snmp_gate.specs.Limits.{IsShortReplyFor};
 ghost use Rattle.snmp_gate.specs.Replies.{SameAgent, says_of};
@@ -126,6 +127,7 @@ fn reply_now(
         → question_in request.now.first ≡ Some q
         → RepliesTo agent.old seconds salt q said request.now.first.kept request.now.work reply) }
     ensures short { IfOk result (IsShortReplyFor limits.now request.now.first) }
+    ensures counted { IfOk result (CountsReply agent.old agent.new) }
     ensures same { SameAgent agent.old agent.new }
     ensures err { OnErr result (agent.new ≡ agent.old) }
 {
@@ -224,6 +226,7 @@ impl Gate {
             → SendHappens self.old now before (fresh salt ask_id) sent self.new) }
         ensures idle { IfOk result (λ sent. sent ≡ Sent.Nothing
             → AreIdle self.new.limits now self.new.requests.list.items) }
+        ensures counted { IfOk result (CountsSent self.old.agent self.new.agent) }
         ensures stays { Stays self.old self.new }
         ensures err { OnErr result (IsAsBefore now self.old self.new) }
     {
@@ -261,6 +264,7 @@ impl Gate {
             → GateStands since before self.old
             → SendHappens self.old now before (fresh salt ask_id) sent self.new) }
         ensures something { IfOk result (λ sent. sent ≢ Sent.Nothing) }
+        ensures counted { IfOk result (CountsSent self.old.agent self.new.agent) }
         ensures stays { Stays self.old self.new }
         ensures err { OnErr result (IsAsBefore now self.old self.new) }
         ensures same { OnErr result (self.new ≡ self.old) }
@@ -312,6 +316,7 @@ impl Gate {
         ensures happens { (since now : ℕ) (before : List Happening) (f : Fresh) → since ≤ now
             → GateStands since before self.old → SendHappens self.old now before f result self.new }
         ensures something { result ≢ Sent.Nothing }
+        ensures counted { CountsSent self.old.agent self.new.agent result }
         ensures stays { Stays self.old self.new }
     {
         let (device, number) = self.device_at(place);

@@ -1,6 +1,6 @@
 //! How a request goes on, after it came and after each answer of its device.
 
-ghost use Rattle.std.specs.Prelude.{◌≡◌, ◌≢◌, List, IfOk, OnErr};
+ghost use Rattle.std.specs.Prelude.{◌≡◌, ◌≢◌, ◌<◌, ℕ, List, IfOk, IfSome, OnErr};
 ghost use Rattle.vacm_core.specs.Tables.{Tables};
 ghost use Rattle.snmp_msg.specs.Pdu.{pdu_of};
 ghost use Rattle.snmp_msg.specs.Variables.{Variable};
@@ -13,7 +13,8 @@ ghost use Rattle.snmp_walk.specs.declared.bulk_ask.BulkAsk.{BulkAsk as BulkAskIs
 ghost use Rattle.snmp_gate.specs.Work.{AsksNoSet, BulkAskStands, BulkStandsFor, OnwardStands, ReadStands, SaysAll};
 ghost use Rattle.snmp_gate.specs.Work.{TaskHas};
 ghost use Rattle.snmp_gate.specs.declared.set_answer.ResponseStatus.{ResponseStatus as Says};
-ghost use Rattle.snmp_gate.specs.Ends.{IsEndFor, IsFailing, FailsOrGoesOn};
+ghost use Rattle.snmp_gate.specs.Ends.{ErrsSo, FailsOrGoesOn, IsEndFor, IsFailing, IsStatusOfFailure};
+ghost use Rattle.snmp_gate.specs.ReadErrors.{IsIndexAmong};
 ghost use Rattle.snmp_gate.specs.Fits.{BulkFits, ReadFits, fault_of};
 ghost use Rattle.snmp_gate.specs.Taking.{BulkSaysSame};
 ghost use Rattle.snmp_gate.specs.Said.{Said};
@@ -67,7 +68,9 @@ pub(crate) fn fault_in(taken: AnswerTaken) -> Option<AnswerFault>
 }
 
 /// Returns the error-index of a column, which counts from 1, or 0 for none.
-fn index_of(column: Option<usize>) -> i32 {
+fn index_of(column: Option<usize>) -> i32
+    ensures { (bindings : ℕ) → IfSome column (λ number. number < bindings) → IsIndexAmong result bindings }
+{
     let Some(number) = column else {
         return 0;
     };
@@ -79,7 +82,9 @@ fn index_of(column: Option<usize>) -> i32 {
 
 /// Returns genErr, with the index of this column.
 pub(crate) fn gen_err(column: Option<usize>) -> ResponseStatus
-    ensures { result.status ≡ GEN_ERR }
+    ensures status { result.status ≡ GEN_ERR }
+    ensures index { (bindings : ℕ) → IfSome column (λ number. number < bindings)
+        → IsIndexAmong result.index bindings }
 {
     ResponseStatus {
         status: GEN_ERR,
@@ -89,7 +94,9 @@ pub(crate) fn gen_err(column: Option<usize>) -> ResponseStatus
 
 /// Returns what a Response says of an error of the device.
 fn status_of(failure: Failure) -> ResponseStatus
-    ensures { IsFailing result }
+    ensures fails { IsFailing result }
+    ensures is { (bindings : ℕ) → IfSome failure.column (λ number. number < bindings)
+        → IsStatusOfFailure failure.status bindings result }
 {
     match failure.status {
         FailureStatus::TooBig => ResponseStatus {
@@ -153,6 +160,9 @@ pub(crate) fn take_read(
         → SaysAll (read_request operation dialogue.old) answer.now told
         → ReadStands tables q told operation dialogue.old → ReadStands tables q told operation dialogue.new) }
     ensures fails { IfOk result FailsOrGoesOn }
+    ensures errs { IfOk result (λ taken. (tables : Tables) (q : Question) (told : Said) (operation : ReadOperation)
+        → SaysAll (read_request operation dialogue.old) answer.now told
+        → ReadStands tables q told operation dialogue.old → ErrsSo tables q told taken) }
     ensures fits { IfOk result (λ taken. ReadFits dialogue.old (pdu_of answer.now) (fault_of taken)) }
     ensures err { OnErr result (dialogue.new ≡ dialogue.old) }
 {
@@ -176,6 +186,8 @@ pub(crate) fn take_bulk(
         → SaysAll (bulk_request_by by dialogue.old) answer.now told
         → BulkAskStands tables q told by dialogue.old → BulkStandsFor tables q told dialogue.new) }
     ensures fails { IfOk result FailsOrGoesOn }
+    ensures errs { IfOk result (λ taken. (tables : Tables) (q : Question) (told : Said)
+        → BulkStandsFor tables q told dialogue.old → ErrsSo tables q told taken) }
     ensures fits { IfOk result (λ taken.
         BulkFits (seen_by viewer.now) dialogue.old (pdu_of answer.now) (fault_of taken)) }
     ensures err { OnErr result (BulkSaysSame dialogue.old dialogue.new) }
@@ -217,7 +229,7 @@ fn after_task(named: NamedTask, is_front: bool, viewer: &Viewer<'_>, late: bool)
 /// Returns how a request goes on after its device's answer.
 pub(crate) fn after(named: NamedTask, taken: AnswerTaken, viewer: &Viewer<'_>, late: bool) -> Onward
     ensures stands { (tables : Tables) (q : Question) (told : Said) → IsViewerOf tables q viewer.now
-        → IsEndFor q told taken
+        → IsEndFor tables q told taken
         → TaskHas tables q told named.task → OnwardStands tables q told result }
     ensures no_set { AsksNoSet result }
     ensures ends { (says : Says) → taken ≡ AnswerTaken.Ends says → result ≡ Onward.Ends (RequestEnd.Own says) }

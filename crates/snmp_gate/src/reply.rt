@@ -9,6 +9,7 @@ ghost use Rattle.snmp_message.specs.Scoped.{Contexts, ScopedFront};
 ghost use Rattle.snmp_msg.specs.Pdu.{PduParts, PduText};
 ghost use Rattle.snmp_incoming.specs.Answers.{given_of};
 ghost use Rattle.snmp_incoming.specs.Texts.{text_of};
+ghost use Rattle.snmp_gate.specs.Counting.{CountsReply};
 ghost use Rattle.snmp_gate.specs.Limits.{IsLimit, IsShortReply};
 ghost use Rattle.snmp_gate.specs.Question.{Question};
 ghost use Rattle.snmp_gate.specs.Messages.{question_given, question_in};
@@ -100,6 +101,7 @@ fn reply_without(
     ensures sent { IfOk result (IsTooBigOr (answering agent.old sealing.now) (given_of taken.now)) }
     ensures short { IfOk result (λ reply. (c : Contexts) (p : PduParts) → ScopedFront (text_of taken.now.text) c
         → PduText c.pdu p → IsShortReply sealing.now.limit reply) }
+    ensures counted { IfOk result (CountsReply agent.old agent.new) }
     ensures same { SameAgent agent.old agent.new }
     ensures err { OnErr result (agent.new ≡ agent.old) }
 {
@@ -138,6 +140,7 @@ fn reply_with<B: Spelled>(
         (told_with says (map B.says bindings.now))) }
     ensures short { IfOk result (λ reply. (c : Contexts) (p : PduParts) → ScopedFront (text_of taken.now.text) c
         → PduText c.pdu p → IsShortReply sealing.now.limit reply) }
+    ensures counted { IfOk result (CountsReply agent.old agent.new) }
     ensures same { SameAgent agent.old agent.new }
     ensures err { OnErr result (agent.new ≡ agent.old) }
 {
@@ -160,6 +163,7 @@ fn reply_front(
         (map variable_of bindings.now)) }
     ensures short { IfOk result (λ reply. (c : Contexts) (p : PduParts) → ScopedFront (text_of taken.now.text) c
         → PduText c.pdu p → IsShortReply sealing.now.limit reply) }
+    ensures counted { IfOk result (CountsReply agent.old agent.new) }
     ensures same { SameAgent agent.old agent.new }
     ensures err { OnErr result (agent.new ≡ agent.old) }
 {
@@ -200,10 +204,11 @@ fn reply_own(
     sealing: &Sealing,
 ) -> Result<Reply, AllocError>
     ensures sent { IfOk result (λ reply. (client : List ℕ) (q : Question) (said : Said) (again : OptionIs Says)
-        → question_given client (given_of taken.now) ≡ Some q → IsOwnStatus q said again says
+        → question_given client (given_of taken.now) ≡ Some q → IsOwnStatus agent.old.tables q said again says
         → IsReplyTo (answering agent.old sealing.now) agent.old.tables q said again (given_of taken.now) reply) }
     ensures short { IfOk result (λ reply. (c : Contexts) (p : PduParts) → ScopedFront (text_of taken.now.text) c
         → PduText c.pdu p → IsShortReply sealing.now.limit reply) }
+    ensures counted { IfOk result (CountsReply agent.old agent.new) }
     ensures same { SameAgent agent.old agent.new }
     ensures err { OnErr result (agent.new ≡ agent.old) }
 {
@@ -232,6 +237,7 @@ fn reply_unhandled(
     ensures sent { IfOk result (IsReportedOr (answering agent.old sealing.now) (given_of taken.now)) }
     ensures short { IfOk result (λ reply. (c : Contexts) (p : PduParts) → ScopedFront (text_of taken.now.text) c
         → PduText c.pdu p → IsShortReply sealing.now.limit reply) }
+    ensures counted { IfOk result (CountsReply agent.old agent.new) }
     ensures same { SameAgent agent.old agent.new }
     ensures err { OnErr result (agent.new ≡ agent.old) }
 {
@@ -280,6 +286,7 @@ fn reply_columns(
         → IsReplyTo (answering agent.old sealing.now) agent.old.tables q said again (given_of taken.now) reply) }
     ensures short { IfOk result (λ reply. (c : Contexts) (p : PduParts) → ScopedFront (text_of taken.now.text) c
         → PduText c.pdu p → IsShortReply sealing.now.limit reply) }
+    ensures counted { IfOk result (CountsReply agent.old agent.new) }
     ensures same { SameAgent agent.old agent.new }
     ensures err { OnErr result (agent.new ≡ agent.old) }
 {
@@ -304,6 +311,7 @@ fn reply_bulk(
         → IsReplyTo (answering agent.old sealing.now) agent.old.tables q said again (given_of taken.now) reply) }
     ensures short { IfOk result (λ reply. (c : Contexts) (p : PduParts) → ScopedFront (text_of taken.now.text) c
         → PduText c.pdu p → IsShortReply sealing.now.limit reply) }
+    ensures counted { IfOk result (CountsReply agent.old agent.new) }
     ensures same { SameAgent agent.old agent.new }
     ensures err { OnErr result (agent.new ≡ agent.old) }
 {
@@ -329,6 +337,7 @@ pub(crate) fn reply_to(
         reply) }
     ensures short { IfOk result (λ reply. (c : Contexts) (p : PduParts) → ScopedFront message.now.kept.text c
         → PduText c.pdu p → IsShortReply sealing.now.limit reply) }
+    ensures counted { IfOk result (CountsReply agent.old agent.new) }
     ensures same { SameAgent agent.old agent.new }
     ensures err { OnErr result (agent.new ≡ agent.old) }
 {

@@ -135,6 +135,7 @@ impl Gate {
         ensures refused { IfOk result (IsRefusedBy self.old (now / 1000) datagram.now self.new) }
         ensures untaken { IfOk result (λ taken. IsUntaken taken → IsAsBefore now self.old self.new) }
         ensures cause { IfOk result (HasCause self.old now datagram.now) }
+        ensures counted { IfOk result (λ taken. IsNoRefusal taken → self.new.agent ≡ self.old.agent) }
         ensures stays { Stays self.old self.new }
         ensures err { OnErr result (IsAsBefore now self.old self.new) }
     {
@@ -192,6 +193,7 @@ impl Gate {
         ensures accepts { IfOk result IsNoRefusal }
         ensures untaken { IfOk result (λ taken. IsUntaken taken → IsAsBefore now self.old self.new) }
         ensures cause { IfOk result (IsCauseOf self.old now message.digest) }
+        ensures agent { self.new.agent ≡ self.old.agent }
         ensures stays { Stays self.old self.new }
         ensures err { OnErr result (IsAsBefore now self.old self.new) }
     {
@@ -253,6 +255,7 @@ impl Gate {
         ensures accepts { IfOk result IsNoRefusal }
         ensures untaken { IfOk result (λ taken. IsUntaken taken → IsAsBefore now self.old self.new) }
         ensures cause { IfOk result (IsCauseOf self.old now message.digest) }
+        ensures agent { self.new.agent ≡ self.old.agent }
         ensures stays { Stays self.old self.new }
         ensures err { OnErr result (IsAsBefore now self.old self.new) }
     {

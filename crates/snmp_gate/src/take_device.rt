@@ -65,7 +65,7 @@ fn take_task(
         → IsViewerOf tables q viewer.now
         → SaysAll (request_of_task q named.old.task) answer.now told
         → TaskStands tables q told named.old.task
-        → TaskHas tables q told named.new.task × IsEndFor q told taken) }
+        → TaskHas tables q told named.new.task × IsEndFor tables q told taken) }
     ensures set { IfOk result (λ taken. named.old.task ≡ TaskIs.Set → EndsSet answer.now taken) }
     ensures fits { IfOk result (λ taken.
         TaskFits (seen_by viewer.now) named.old.task (pdu_of answer.now) (fault_of taken)) }
@@ -81,7 +81,7 @@ fn take_task(
 /// Returns what becomes of a request whose device answered so.
 fn work_after(asked: OpenRequest, taken: AnswerTaken, viewer: &Viewer<'_>, late: bool) -> Work
     ensures after { (tables : Tables) (q : Question) (told : Said) → IsViewerOf tables q viewer.now
-        → IsEndFor q told taken → TaskHas tables q told asked.task.task → WorkAfter tables q told asked result }
+        → IsEndFor tables q told taken → TaskHas tables q told asked.task.task → WorkAfter tables q told asked result }
     ensures no_set { ¬ AsksSet result }
     ensures first { MayBeJoined result }
     ensures fresh { IsFresh result }
@@ -134,7 +134,7 @@ fn take_open(
         → question_in message.now ≡ Some q
         → SaysAll (request_of_task q waiting.old.task.task) answer.now told
         → TaskStands tables.now q told waiting.old.task.task
-        → TaskHas tables.now q told waiting.new.task.task × IsEndFor q told taken) }
+        → TaskHas tables.now q told waiting.new.task.task × IsEndFor tables.now q told taken) }
     ensures device { waiting.new.device ≡ waiting.old.device }
     ensures timer { waiting.new.timer ≡ waiting.old.timer }
     ensures set { IfOk result (λ taken. waiting.old.task.task ≡ TaskIs.Set → EndsSet answer.now taken) }
@@ -158,7 +158,7 @@ fn after_answer(
     lateness: Lateness,
 ) -> Work
     ensures after { (o : OpenIs) (q : Question) (told : Said)
-        → question_in message.now ≡ Some q → old ≡ Open o → IsEndFor q told became
+        → question_in message.now ≡ Some q → old ≡ Open o → IsEndFor tables.now q told became
         → TaskHas tables.now q told o.task.task → WorkAfter tables.now q told o result }
     ensures no_set { ¬ AsksSet result }
     ensures first { (o : OpenIs) → old ≡ Open o → MayBeJoined result }
@@ -268,6 +268,7 @@ impl Gate {
         ensures hidden { IfOk result (IsHiddenTold self.old device datagram.now) }
         ensures unreadable { IfOk result (λ taken. taken ≡ DeviceTaken.Unreadable
             → (community : List ℕ) (p : PduParts) → ¬ IsDeviceAnswer datagram.now community p) }
+        ensures counted { self.new.agent ≡ self.old.agent }
         ensures stays { Stays self.old self.new }
         ensures err { OnErr result (IsAsBefore now self.old self.new) }
     {

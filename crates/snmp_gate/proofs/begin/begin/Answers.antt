@@ -1,4 +1,8 @@
-use Rattle.std.proofs.Common.{arith}
+use Rattle.std.proofs.Common.{List, arith, subst, ℕ}
+use Rattle.std.specs.List.{AllZip}
+use Rattle.vacm_core.specs.declared.access.Access.{Access}
+use Rattle.snmp_gate.specs.Access.{IsFirstRefused}
+use Rattle.snmp_gate.proofs.Erring.{refusal_cause}
 use Rattle.std.proofs.lemmas.Slice.Zip.{AllZip-long}
 use Rattle.snmp_msg.specs.Variables.{variables_of}
 use Rattle.vacm_core.specs.declared.access.ViewType.TheVariants.{Read}
@@ -6,7 +10,11 @@ use Rattle.snmp_gate.specs.Messages.{IsAnswerFor}
 use Rattle.snmp_gate.proofs.begin.begin.Goals as goal
 
 pub returns-in-Some-clause-stands : goal.returns-in-Some-clause-stands
-returns-in-Some-clause-stands c tables q told nothing viewer of = c.ending_of.ensures.stands tables q told nothing
+returns-in-Some-clause-stands c tables q told nothing viewer of =
+    let answers = c.in_ok-answers.answers.items in
+    let zip = subst (λ (list : List ℕ). AllZip (IsAnswerFor c.args.viewer.now Read) (variables_of list) answers) of.list c.in_ok-answers.ensures in
+    let first = subst (λ (xs : List Access). IsFirstRefused c.args.pdu.now.tag xs c.in-Some.refusal) c.deref.ensures.value c.in-Some.ensures in
+    c.ending_of.ensures.stands tables q told nothing (refusal_cause tables q c.args.viewer.now c.args.pdu.now.tag answers c.in-Some.refusal viewer of.tag zip first)
 
 pub returns-then-len-gt-MOST_VARIABLES-clause-stands : goal.returns-then-len-gt-MOST_VARIABLES-clause-stands
 returns-then-len-gt-MOST_VARIABLES-clause-stands c tables q told nothing viewer of = c.asks_too_much.ensures.stands tables q told

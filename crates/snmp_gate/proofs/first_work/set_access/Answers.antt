@@ -5,11 +5,12 @@ use Rattle.snmp_msg.specs.Variables.{Variable, variables_of}
 use Rattle.vacm_core.specs.declared.access.Access.{Access}
 use Rattle.vacm_core.specs.declared.access.ViewType.TheVariants.{Write}
 use Rattle.snmp_gate.specs.Messages.{IsAnswerFor, question_given, set_in}
+use Rattle.snmp_gate.proofs.Erring.{set_cause}
 use Rattle.snmp_gate.proofs.Granted.{may_all}
 use Rattle.snmp_gate.proofs.first_work.set_access.Goals as goal
 
 pub returns-in-Some-clause-ends : goal.returns-in-Some-clause-ends
-returns-in-Some-clause-ends c q told = c.ending_of.ensures.stands c.args.tables.now q told
+returns-in-Some-clause-ends c q told set nothing = c.ending_of.ensures.stands c.args.tables.now q told nothing (set_cause c.args.tables.now q c.in-Some.refusal set)
 
 pub returns-clause-may : goal.returns-clause-may
 returns-clause-may c none q asked set =

@@ -14,7 +14,7 @@ use Rattle.snmp_gate.proofs.reply.reply_bulk.Goals as goal
 
 pub returns-then-not-can_be_written-clause-sent : goal.returns-then-not-can_be_written-clause-sent
 returns-then-not-can_be_written-clause-sent c =
-    on_ok c.reply_own.result _ _ (λ r sent client q said again asked stands. sent client q said again asked (unwritten q said again (no_bulk q stands.tag))) c.reply_own.ensures.sent
+    on_ok c.reply_own.result _ _ (λ r sent client q said again asked stands. sent client q said again asked (unwritten c.args.agent.now.tables q said again (no_bulk q stands.tag))) c.reply_own.ensures.sent
 
 pub returns-clause-sent : goal.returns-clause-sent
 returns-clause-sent c =

@@ -27,7 +27,7 @@ returns-in-Repeated-clause-sent c =
     on_ok c.reply_own-in-Repeated.result _ _ (λ r sent q said asked stands.
     subst (λ (e : RequestEnd). IsReplyTo a tables q said (again_of e) c.args.message.now.kept r) (sym c.in-Repeated.is)
     (of_message a tables q said (Some says) (given_of c.taken-taken.result) c.args.message.now.kept client r c.taken-taken.ensures
-    (λ given. sent client q said (Some says) given (repeated_status q said says (subst (EndingStands tables q said) c.in-Repeated.is stands))) asked))
+    (λ given. sent client q said (Some says) given (repeated_status tables q said says (subst (EndingStands tables q said) c.in-Repeated.is stands))) asked))
     c.reply_own-in-Repeated.ensures.sent
 
 pub returns-in-Unhandled-clause-sent : goal.returns-in-Unhandled-clause-sent

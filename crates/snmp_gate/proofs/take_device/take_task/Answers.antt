@@ -13,8 +13,9 @@ returns-in-Read-clause-stands c =
       both.0 tables q told c.in-Read.field-0 viewer
           (subst (λ (t : Task). SaysAll (request_of_task q t) c.args.answer.now told) c.in-Read.is says)
           (subst (TaskStands tables q told) c.in-Read.is stands),
-      fails_end q told taken (let known : ReadStands tables q told c.in-Read.field-0 c.in-Read.dialogue = subst (TaskStands tables q told) c.in-Read.is stands in no_read q c.in-Read.field-0 known.tag) both.1,
-    )) (on_both c.take_read.result _ FailsOrGoesOn c.take_read.ensures.stands c.take_read.ensures.fails)
+      (let known : ReadStands tables q told c.in-Read.field-0 c.in-Read.dialogue = subst (TaskStands tables q told) c.in-Read.is stands in
+          fails_end tables q told taken (no_read q c.in-Read.field-0 known.tag) both.1.0 (both.1.1 tables q told c.in-Read.field-0 (subst (λ (t : Task). SaysAll (request_of_task q t) c.args.answer.now told) c.in-Read.is says) known)),
+    )) (on_both c.take_read.result _ _ c.take_read.ensures.stands (on_both c.take_read.result FailsOrGoesOn _ c.take_read.ensures.fails c.take_read.ensures.errs))
 
 pub returns-in-Bulk-clause-stands : goal.returns-in-Bulk-clause-stands
 returns-in-Bulk-clause-stands c =
@@ -22,8 +23,9 @@ returns-in-Bulk-clause-stands c =
       both.0 tables q told c.in-Bulk.field-0 viewer
           (subst (λ (t : Task). SaysAll (request_of_task q t) c.args.answer.now told) c.in-Bulk.is says)
           (subst (TaskStands tables q told) c.in-Bulk.is stands),
-      fails_end q told taken (let known : BulkAskStands tables q told c.in-Bulk.field-0 c.in-Bulk.dialogue = subst (TaskStands tables q told) c.in-Bulk.is stands in no_bulk q known.dialogue.tag) both.1,
-    )) (on_both c.take_bulk.result _ FailsOrGoesOn c.take_bulk.ensures.stands c.take_bulk.ensures.fails)
+      (let known : BulkAskStands tables q told c.in-Bulk.field-0 c.in-Bulk.dialogue = subst (TaskStands tables q told) c.in-Bulk.is stands in
+          fails_end tables q told taken (no_bulk q known.dialogue.tag) both.1.0 (both.1.1 tables q told known.dialogue)),
+    )) (on_both c.take_bulk.result _ _ c.take_bulk.ensures.stands (on_both c.take_bulk.result FailsOrGoesOn _ c.take_bulk.ensures.fails c.take_bulk.ensures.errs))
 
 pub returns-in-Set-clause-stands : goal.returns-in-Set-clause-stands
 returns-in-Set-clause-stands c tables q told viewer says stands =

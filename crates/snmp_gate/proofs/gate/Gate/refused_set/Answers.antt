@@ -11,7 +11,7 @@ use Rattle.snmp_gate.proofs.gate.Gate.refused_set.Goals as goal
 pub returns-in-Some-clause-ends : goal.returns-in-Some-clause-ends
 returns-in-Some-clause-ends c q told asked set nothing =
     subst (λ (tables : Tables). EndingStands tables q told c.in-Some.ending) c.tables.ensures
-    ((rw c.in-Some.is at c.in_ok-refused.ensures.ends) q told nothing)
+    ((rw c.in-Some.is at c.in_ok-refused.ensures.ends) q told set nothing)
 
 pub returns-then-not-branch-clause-ends : goal.returns-then-not-branch-clause-ends
 returns-then-not-branch-clause-ends c q told asked set nothing =

@@ -1,5 +1,6 @@
+use Rattle.snmp_gate.specs.Beginning.{IsNoRefusal}
 use Rattle.std.specs.Prelude.{◌≡◌, ◌/◌, ℕ, Bool, List, Ok, Option, Some, None, Result}
-use Rattle.std.proofs.Common.{ap, inl, refl, subst, sym}
+use Rattle.std.proofs.Common.{ap, inl, refl, subst, sym, ◌∙◌}
 use Rattle.sha2.specs.Sha256.{sha256}
 use Rattle.snmp_message.specs.declared.refusal.Refusal.{Refusal}
 use Rattle.snmp_message.specs.Numbers.{MemoryIs, in_table}
@@ -124,3 +125,9 @@ returns-in-None-clause-stays c =
     let g = c.args.self.now in
     let mid : Gate = record g { agent = c.take.new.self } in
     stays_on g mid c.begin.new.self (stays_counted g mid (agent_same g.agent mid.agent c.in-Ok.ensures.takes.1) refl refl refl refl) c.begin.ensures.stays
+
+pub returns-in-Some-clause-counted : goal.returns-in-Some-clause-counted
+returns-in-Some-clause-counted c = on_ok c.join.result IsNoRefusal _ (λ taken is no. c.join.ensures.agent ∙ c.in-Ok.ensures.takes.1) c.join.ensures.accepts
+
+pub returns-in-None-clause-counted : goal.returns-in-None-clause-counted
+returns-in-None-clause-counted c = on_ok c.begin.result IsNoRefusal _ (λ taken is no. c.begin.ensures.agent ∙ c.in-Ok.ensures.takes.1) c.begin.ensures.accepts
