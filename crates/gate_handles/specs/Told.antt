@@ -1,9 +1,10 @@
--- What a caller gets of a gateway: what its configuration says, its numbers and counters, why a configuration is
--- refused, and the user of a datagram.
+-- What a caller gets of a gateway: what its configuration says, the context of a request, its numbers and counters, why
+-- a configuration is refused, and the user of a datagram.
 --
--- `ReadsSetting`, `IsSetting`: a text that the configuration says. `MayNotify`: whether a receiver may be notified of a
--- variable. `numbers_of`: whom the last call was about. `CountsOf`: a counter of the agent. `TellsGate`: why a text is
--- refused as a configuration. `CopiesUser`: the user that a datagram names.
+-- `ReadsSetting`, `IsSetting`: a text that the configuration says. `ReadsContext`: the context in which a request's
+-- messages ask. `MayNotify`: whether a receiver may be notified of a variable. `numbers_of`: whom the last call was
+-- about. `CountsOf`: a counter of the agent. `TellsGate`: why a text is refused as a configuration. `CopiesUser`: the
+-- user that a datagram names.
 use Rattle.std.specs.Prelude.{◌≡◌, ◌<◌, ◌≤◌, ◌⊎◌, ⊤, ℕ, List}
 use Rattle.std.specs.Prelude.{◌∷◌, ◌++◌, length, drop, codes, string_bytes, slice_get, if◌then◌else◌, ◌==◌}
 use Rattle.std.specs.Prelude.{Option, Some, None, option_map, MatchOption, Result, Ok, Err}
@@ -16,6 +17,7 @@ use Rattle.snmp_message.specs.Security.{SecText, Fields}
 use Rattle.snmp_message.specs.declared.refusal.Refusal.{Refusal}
 use Rattle.snmp_message.specs.declared.refusal.Refusal.TheVariants.{OutOfMemory}
 use Rattle.snmp_agent.specs.RefusalCounters.{counter_at}
+use Rattle.snmp_gate.specs.RequestTags.{TellsContext}
 use Rattle.snmpsec_gate_config.specs.Oddities.{TellsOddity, oddity_words}
 use Rattle.snmpsec_gate_config.specs.Refusals.{RefusesText, SaysSound, refusal_line}
 use Rattle.snmpsec_gate_config.specs.Told.{IsWhy}
@@ -84,6 +86,16 @@ ReadsSetting held which position out out_new written written_new told =
     ((text : Option (List ℕ)) × IsSetting held.settings held.devices held.receivers held.access which
     position text
     × CopiesMessage text out out_new written written_new told)
+    ⊎ ((told ≡ Err (Refused OutOfMemory)) × CopiesNothing out out_new written written_new)
+
+-- ---- a request
+
+-- The contextName in which the messages of the request with this number ask is copied, if it waits; or there is no
+-- memory for it.
+abbrev pub ReadsContext : GateHeld → ℕ → List ℕ → List ℕ → ℕ → ℕ → Result ⊤ CallFault → Type 0
+ReadsContext held number out out_new written written_new told =
+    ((context : Option (List ℕ)) × TellsContext held.gate.requests.list.items number context
+    × CopiesMessage context out out_new written written_new told)
     ⊎ ((told ≡ Err (Refused OutOfMemory)) × CopiesNothing out out_new written written_new)
 
 -- ---- who may be notified

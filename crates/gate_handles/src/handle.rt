@@ -7,7 +7,7 @@ ghost use Rattle.snmp_handles.specs.Parts.{CopiesMessage};
 ghost use Rattle.gate_handles.specs.Gates.{MakesGate, Empties, IsGateDue};
 ghost use Rattle.gate_handles.specs.Gates.{TakesClient, TakesDevice, SendsNext};
 ghost use Rattle.gate_handles.specs.Gates.{ReadsGate};
-ghost use Rattle.gate_handles.specs.Told.{CountsOf, MayNotify, ReadsSetting, numbers_of};
+ghost use Rattle.gate_handles.specs.Told.{CountsOf, MayNotify, ReadsContext, ReadsSetting, numbers_of};
 
 use crate::event::GateEvent;
 use crate::gate_parts::{
@@ -247,6 +247,22 @@ impl GateHandle {
         ensures { CopiesMessage self.now.client out.old out.new written.old written.new result }
     {
         copied_message(&self.client, out, written)
+    }
+
+    /// Copies the contextName in which the messages of the request with this number ask (RFC 3412, section 6.8), in
+    /// the same way. The errors are NothingTaken, if no such request waits, ShortBuffer, and out of memory.
+    pub fn context(
+        &self,
+        request: u64,
+        out: &mut [u8],
+        written: &mut usize,
+    ) -> Result<(), CallFault>
+        ensures { ReadsContext self.now request out.old out.new written.old written.new result }
+    {
+        match self.gate.request_context(request) {
+            Ok(context) => copied_message(&context, out, written),
+            Err(_) => Err(NO_MEMORY),
+        }
     }
 
     /// Copies what the configuration says at this position, counted from 0, in the same way: the setting's text, or a

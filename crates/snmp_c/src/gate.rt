@@ -9,13 +9,13 @@ ghost use Rattle.snmp_handles.specs.Faults.{fault_code};
 ghost use Rattle.snmp_handles.specs.declared.fault.CallFault.TheVariants.{Refused};
 ghost use Rattle.snmp_message.specs.declared.refusal.Refusal.TheVariants.{OutOfMemory};
 ghost use Rattle.snmp_c.specs.GateCalls.{MakesGateway, ReadsConfiguration, ClearsGate, TakesFromClient};
-ghost use Rattle.snmp_c.specs.GateCalls.{TakesFromDevice, SendsDue};
+ghost use Rattle.snmp_c.specs.GateCalls.{TakesFromDevice, SendsDue, TellsContextOf};
 ghost use Rattle.snmp_c.specs.GateCalls.{TellsDue, TellsDatagram, TellsClientOf, TellsSetting, TellsNumbersOf};
 ghost use Rattle.snmp_c.specs.GateCalls.{GateCounter, GateCount, TellsGateConfiguration, TellsMayNotify, TellsUser};
 
 use crate::gate_calls::{
-    clear, client, count, counter, due, may_notify, message, next, numbers, setting, take_client,
-    take_device,
+    clear, client, context, count, counter, due, may_notify, message, next, numbers, setting,
+    take_client, take_device,
 };
 use gate_handles::{GateHandle, copied_user, tell_gate_config};
 use snmp_handles::{CallFault, code_of};
@@ -208,6 +208,24 @@ pub unsafe extern "C" fn proved_gate_client(at: *mut u8, out: &mut [u8], written
         held new result ⌝) }
 {
     client(&mut *(at as *mut GateHandle), out, written)
+}
+
+/// Copies the contextName in which the messages of the request with this number ask, in the same way. It answers -2
+/// where no such request waits, and 14 if memory runs out.
+#[unsafe(no_mangle)]
+pub unsafe extern "C" fn proved_gate_context(
+    at: *mut u8,
+    request: u64,
+    out: &mut [u8],
+    written: &mut usize,
+) -> i32
+    ghost held: { GateHeld }
+    requires* { sem 𝓛 (lies_at gates.the_row full_share at held) }
+    ensures* { ∃ₛ (λ (new : GateHeld). sem 𝓛
+        (lies_at gates.the_row full_share at new) ∗ ⌜ TellsContextOf request out.old out.new written.old written.new
+        held new result ⌝) }
+{
+    context(&mut *(at as *mut GateHandle), request, out, written)
 }
 
 /// Copies what the configuration says, in the same way: 0 the path of the boots file; 1 the address at which it

@@ -114,6 +114,16 @@ class Gateway(unittest.TestCase):
             self.assertEqual(self.gate.take_client(MOMENT, b"client", asked), event)
             self.assertEqual(self.gate.pdu(), Pdu.GET)
 
+    def test_a_message_has_its_context(self):
+        self.learn()
+        with self.assertRaises(snmpsec.NothingTaken):
+            self.gate.context()
+        for number, context in (2, b"pdu"), (3, b"plant 7"), (4, b""), (5, bytes(range(200))):
+            asked = self.ask(number, Level.AUTH_PRIV, context=context)
+            for event in (GateEvent.BEGINS, GateEvent.JOINS):
+                self.assertEqual(self.gate.take_client(MOMENT, b"client", asked), event)
+                self.assertEqual(self.gate.context(), context)
+
     def test_bindings_that_are_hidden_are_counted(self):
         self.learn()
         self.gate.take_client(MOMENT, b"client", self.ask(2, Level.AUTH_PRIV))

@@ -2,8 +2,8 @@
 
 use crate::agent::{told, Counters, Counts};
 use crate::calls::{
-    self, snmpsec_datagram_user, snmpsec_gate_client, snmpsec_gate_counters, snmpsec_gate_counts,
-    snmpsec_gate_due, snmpsec_gate_fault, snmpsec_gate_free, snmpsec_gate_may_notify,
+    self, snmpsec_datagram_user, snmpsec_gate_client, snmpsec_gate_context, snmpsec_gate_counters,
+    snmpsec_gate_counts, snmpsec_gate_due, snmpsec_gate_fault, snmpsec_gate_free, snmpsec_gate_may_notify,
     snmpsec_gate_message, snmpsec_gate_new, snmpsec_gate_next, snmpsec_gate_numbers,
     snmpsec_gate_read, snmpsec_gate_setting, snmpsec_gate_take_client, snmpsec_gate_take_device,
     Opaque,
@@ -372,6 +372,17 @@ impl Gate {
 
     fn client(&self) -> Result<Vec<u8>, Error> {
         copied(|out, len, written| unsafe { snmpsec_gate_client(self.at(), out, len, written) })
+    }
+
+    /// The contextName in which the messages of this request ask, if it waits.
+    pub fn context(&self, request: u64) -> Result<Option<Vec<u8>>, Error> {
+        let said = copied(|out, len, written| unsafe {
+            snmpsec_gate_context(self.at(), request, out, len, written)
+        });
+        match said {
+            Err(Error::NothingTaken) => Ok(None),
+            other => other.map(Some),
+        }
     }
 
     /// How many requests wait.

@@ -99,6 +99,11 @@ fn a_request_goes_to_its_device_and_back() {
             panic!("a request begins");
         };
         assert_eq!(pdu, Pdu::GetRequest as u8);
+        assert_eq!(
+            both.gate.context(number).unwrap().as_deref(),
+            Some(b"pdu".as_slice())
+        );
+        assert_eq!(both.gate.context(number + 1), Ok(None));
         let joins = ClientTaken::Joins {
             request: number,
             pdu,

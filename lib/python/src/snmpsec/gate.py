@@ -171,6 +171,10 @@ class Gate(_Counting):
         """By which PDU the message asks that the last call took, where that was BEGINS or JOINS."""
         return Pdu(self._numbers().pdu)
 
+    def context(self) -> bytes:
+        """The contextName in which the message asks that the last call took, where that was BEGINS or JOINS."""
+        return _copied(self._call, "context", self._numbers().request)
+
     def take_device(self, now: int, device: int, datagram: Buffer) -> GateEvent:
         """Takes a datagram of the device at this position, from 0."""
         event = _library.Enumeration()
