@@ -528,7 +528,9 @@ typedef enum snmpsec_gate_text {
     /* of a receiver of notifications: its address, its user, and the word for its level */
     SNMPSEC_GATE_RECEIVER = 6, SNMPSEC_GATE_RECEIVER_USER = 7, SNMPSEC_GATE_RECEIVER_LEVEL = 8,
     /* how it is notified: "trap" or "inform" */
-    SNMPSEC_GATE_RECEIVER_KIND = 9
+    SNMPSEC_GATE_RECEIVER_KIND = 9,
+    /* a read view that access rows name and no family row has, each once: nobody sees anything by it */
+    SNMPSEC_GATE_VIEW_WITHOUT_FAMILY = 10
 } snmpsec_gate_text;
 /* Copies it: SNMPSEC_NOTHING_TAKEN: nothing is said there; SNMPSEC_SHORT_BUFFER, and *written says how much is wanted;
  * SNMPSEC_OUT_OF_MEMORY. */

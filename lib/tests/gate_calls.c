@@ -40,7 +40,9 @@ static void settings(snmpsec_gate *gate) {
     has(gate, "address", SNMPSEC_GATE_ADDRESS, 1, "10.1.0.8:161");
     has(gate, "note", SNMPSEC_GATE_NOTE, 0, "no access row fits its context");
     check("no third address", SNMPSEC_NOTHING_TAKEN, snmpsec_gate_setting(gate, SNMPSEC_GATE_LISTEN, 2, NULL, 0, &len));
-    check("no such setting", SNMPSEC_BAD_ARGUMENT, snmpsec_gate_setting(gate, (snmpsec_gate_text)10, 0, NULL, 0, &len));
+    check("no view without a family", SNMPSEC_NOTHING_TAKEN,
+          snmpsec_gate_setting(gate, SNMPSEC_GATE_VIEW_WITHOUT_FAMILY, 0, NULL, 0, &len));
+    check("no such setting", SNMPSEC_BAD_ARGUMENT, snmpsec_gate_setting(gate, (snmpsec_gate_text)11, 0, NULL, 0, &len));
     check("and nothing is written", 7, (long long)len);
     snmpsec_gate_free(gate);
 }
@@ -51,6 +53,21 @@ static void said(void) {
     settings(gate);
     check("read", 0, read_of(text, &gate));
     settings(gate);
+}
+
+/* The read views that no family row has, each once, of a gateway or of what is read without one. */
+static void views_of(int (*make)(const char *, snmpsec_gate **)) {
+#define ACCESS(prefix, read) \
+    "[[access]]\ngroup = 'g'\nprefix = '" prefix "'\nmodel = 3\nlevel = 'authPriv'\nmatch = 'exact'\nread = '" read "'\n"
+    static const char views[] = HEAD ACCESS("a", "none") ACCESS("b", "v") ACCESS("c", "other") ACCESS("d", "none") ACCESS("e", "")
+        "write = 'w'\nnotify = 'n'\n[[family]]\nview = 'v'\nsubtree = '1'\ninclude = false\n";
+    snmpsec_gate *gate;
+    size_t len = 7;
+    check("views", 0, make(views, &gate));
+    has(gate, "a view that no family row has", SNMPSEC_GATE_VIEW_WITHOUT_FAMILY, 0, "none");
+    has(gate, "another one", SNMPSEC_GATE_VIEW_WITHOUT_FAMILY, 1, "other");
+    check("each once", SNMPSEC_NOTHING_TAKEN, snmpsec_gate_setting(gate, SNMPSEC_GATE_VIEW_WITHOUT_FAMILY, 2, NULL, 0, &len));
+    snmpsec_gate_free(gate);
 }
 
 /* What is read without a gateway has no devices that send, no users and nothing to do. */
@@ -253,6 +270,8 @@ static void refused_memory(void) {
 int main(int argc, char **argv) {
     read_capture(argc, argv);
     said();
+    views_of(made);
+    views_of(read_of);
     nobody_answered();
     nested_behind_strings();
     refused_texts();

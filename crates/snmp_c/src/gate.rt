@@ -231,8 +231,9 @@ pub unsafe extern "C" fn proved_gate_context(
 /// Copies what the configuration says, in the same way: 0 the path of the boots file; 1 the address at which it
 /// listens at this position, counted from 0; 2 the contextName of the device at this position, 3 its address, and 4
 /// what about it is probably a mistake; 5 the address at which it takes Traps; 6 the address of the receiver at this
-/// position, 7 the name of its user, 8 the word for its level, and 9 `trap` or `inform`. It answers -1 where nothing
-/// has the number, -2 where nothing is said at the position, and 14 if memory runs out.
+/// position, 7 the name of its user, 8 the word for its level, and 9 `trap` or `inform`; 10 the read view at this
+/// position, of those that access rows name and no family row has. It answers -1 where nothing has the number, -2 where
+/// nothing is said at the position, and 14 if memory runs out.
 #[unsafe(no_mangle)]
 pub unsafe extern "C" fn proved_gate_setting(
     at: *mut u8,

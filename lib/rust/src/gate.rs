@@ -40,6 +40,7 @@ enum Text {
     GateReceiverUser = 7,
     GateReceiverLevel = 8,
     GateReceiverKind = 9,
+    GateViewWithoutFamily = 10,
 }
 
 /// What becomes of a client's datagram that isn't refused.
@@ -457,6 +458,15 @@ impl Gate {
                 level: level.unwrap_or_default(),
                 kind: kind.unwrap_or_default(),
             });
+        }
+        Ok(found)
+    }
+
+    /// The read views that access rows name and no family row has, each once. Nobody sees anything by them.
+    pub fn views_without_family(&self) -> Result<Vec<Vec<u8>>, Error> {
+        let mut found = Vec::new();
+        while let Some(view) = self.setting(Text::GateViewWithoutFamily, found.len())? {
+            found.push(view);
         }
         Ok(found)
     }

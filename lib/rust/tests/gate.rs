@@ -287,6 +287,14 @@ fn says_its_addresses_and_devices(gate: &Gate) {
         Some("access 0 gives a write view, and it has no write-community")
     );
     assert_eq!(devices[1].address, "[fe80::7%2]:161");
+    assert!(gate.views_without_family().unwrap().is_empty());
+}
+
+#[test]
+fn a_configuration_says_its_views_without_a_family() {
+    let text = GATE.replace("read = 'all'", "read = 'none'");
+    let gate = Gate::read(text.as_bytes()).unwrap();
+    assert_eq!(gate.views_without_family().unwrap(), [b"none"]);
 }
 
 #[test]
