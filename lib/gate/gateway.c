@@ -104,9 +104,21 @@ static void say_one_host(snmpsec_gate *gate) {
     }
 }
 
+/* Says which read views no family row has: nobody sees anything by them. */
+static void say_views(snmpsec_gate *gate) {
+    char words[CONTEXT_WORDS], *view;
+    size_t len;
+    for (size_t i = 0; (view = setting_of(gate, SNMPSEC_GATE_VIEW_WITHOUT_FAMILY, i, &len)); i++) {
+        shown((const uint8_t *)view, len, words, sizeof words);
+        fprintf(stderr, "snmpsec-gate: read view %s: no family row has it, so nobody sees anything by it\n", words);
+        free(view);
+    }
+}
+
 static void say_notes(snmpsec_gate *gate) {
     bool takes = count_of(gate, SNMPSEC_GATE_TRAPS), sends = count_of(gate, SNMPSEC_GATE_RECEIVER);
     for (size_t i = 0, n = count_of(gate, SNMPSEC_GATE_ADDRESS); i < n; i++) say_note(gate, i);
+    say_views(gate);
     if (sends && takes) say_one_host(gate);
     if (sends && !takes) fprintf(stderr, "snmpsec-gate: receivers: no Traps are taken, since [gate] has no traps\n");
     if (takes && !sends) fprintf(stderr, "snmpsec-gate: traps: no Traps are taken, since there is no receiver\n");

@@ -113,16 +113,24 @@ static void take_refused(struct gateway *gateway, uint64_t now, const struct cli
     send_report(gateway, client);
 }
 
-/* Counts a message that begins a request, or joins one, and keeps for lines whose it is. */
+/* Keeps for lines whose a request is, and in which context it asks. */
+static void note_begun(struct gateway *gateway, const snmpsec_gate_info *info, const struct client *client,
+                       size_t len) {
+    uint8_t user[MOST_USER], context[MOST_CONTEXT];
+    size_t context_len = 0;
+    waiting_begins(info->request, client, user, user_of(len, user),
+                   info->pdu == SNMPSEC_SET_REQUEST ? digest_of(datagram, len) : 0);
+    int answer = snmpsec_gate_context(gateway->gate, info->request, context, sizeof context, &context_len);
+    if (!answer || answer == SNMPSEC_SHORT_BUFFER) waiting_context(info->request, context, context_len);
+}
+
+/* Counts a message that begins a request, or joins one. */
 static void note_client(struct gateway *gateway, snmpsec_gate_event event, const struct client *client, size_t len) {
     snmpsec_gate_info info;
-    uint8_t user[MOST_USER];
     if (snmpsec_gate_numbers(gateway->gate, &info)) return;
     if (info.pdu >= SNMPSEC_GET_REQUEST && info.pdu <= SNMPSEC_REPORT_PDU)
         gateway->counts.messages[info.pdu - SNMPSEC_GET_REQUEST]++;
-    if (event == SNMPSEC_GATE_BEGINS)
-        waiting_begins(info.request, client, user, user_of(len, user),
-                       info.pdu == SNMPSEC_SET_REQUEST ? digest_of(datagram, len) : 0);
+    if (event == SNMPSEC_GATE_BEGINS) note_begun(gateway, &info, client, len);
     else waiting_joins(info.request);
 }
 
@@ -356,12 +364,13 @@ static void note_response(struct gateway *gateway, uint64_t now, const snmpsec_g
 
 /* One message of a request is answered, or isn't. */
 static void take_end(struct gateway *gateway, uint64_t now, const snmpsec_gate_info *info, int why) {
-    char asker[ASKER_WORDS];
+    char asker[ASKER_WORDS], context[IN_CONTEXT_WORDS];
     const char *counter = counted(gateway);
     struct waiting *request = waiting_of(info->request);
     if (counter && line_has_room(LINE_UNHANDLED, now)) {
         asker_words(request, asker);
-        line("unhandled, %s: %s", asker, counter);
+        in_context_words(request, context);
+        line("unhandled, %s%s: %s", asker, context, counter);
     }
     if (why && line_has_room(LINE_UNANSWERED, now)) {
         asker_words(request, asker);

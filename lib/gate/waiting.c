@@ -79,6 +79,14 @@ void waiting_joins(uint64_t number) {
     if (request) request->messages++;
 }
 
+void waiting_context(uint64_t number, const uint8_t *context, size_t len) {
+    struct waiting *request = waiting_of(number);
+    if (!request) return;
+    request->has_context = true;
+    request->context_len = len;
+    if (len <= MOST_CONTEXT) memcpy(request->context, context, len);
+}
+
 /* Fills the free place with the next one that may stand there, and so on: else that one wouldn't be found. */
 static void close_gap(size_t free_at) {
     for (size_t at = (free_at + 1) & (places - 1); table[at].messages; at = (at + 1) & (places - 1)) {
@@ -160,6 +168,18 @@ void asker_words(const struct waiting *request, char *words) {
     address_words(&request->client.from, from);
     shown(request->user, request->user_len, user, sizeof user);
     snprintf(words, ASKER_WORDS, "user %s from %s", user, from);
+}
+
+void in_context_words(const struct waiting *request, char *words) {
+    char context[4 * MOST_CONTEXT + 8] = "\"\"";
+    *words = 0;
+    if (!request || !request->has_context) return;
+    if (request->context_len > MOST_CONTEXT) {
+        snprintf(words, IN_CONTEXT_WORDS, ", a context of %zu octets", request->context_len);
+        return;
+    }
+    if (request->context_len) shown(request->context, request->context_len, context, sizeof context);
+    snprintf(words, IN_CONTEXT_WORDS, ", context %s", context);
 }
 
 void asked_words(const struct waiting *request, char *words) {

@@ -9,8 +9,9 @@
 #include <stddef.h>
 #include <stdint.h>
 
-/* the most octets of a user's name, and of a name that is kept of an ask: in words these have no room in ASKED_WORDS */
-enum { MOST_USER = 32, MOST_NAME = 80 };
+/* the most octets of a user's name, of a contextName, and of a name that is kept of an ask: in words these have no room
+ * in ASKED_WORDS */
+enum { MOST_USER = 32, MOST_CONTEXT = 32, MOST_NAME = 80 };
 
 /* A request, from the message by which it begins until none of its messages waits. */
 struct waiting {
@@ -28,6 +29,11 @@ struct waiting {
     uint64_t digest;
     struct client client;
     uint8_t user[MOST_USER], user_len;
+    /* the context in which it asks, if that is known, and how many octets it has: of more than MOST_CONTEXT none is
+     * kept */
+    bool has_context;
+    uint8_t context[MOST_CONTEXT];
+    size_t context_len;
     /* the PDU by which the device was asked last, how many names it has, and the front of the first */
     uint8_t tag, name_len, name[MOST_NAME];
     size_t names;
@@ -43,6 +49,8 @@ struct waiting {
 void waiting_begins(uint64_t number, const struct client *client, const uint8_t *user, size_t user_len,
                     uint64_t digest);
 void waiting_joins(uint64_t number);
+/* The context in which it asks, of so many octets. */
+void waiting_context(uint64_t number, const uint8_t *context, size_t len);
 /* What is kept of it, or NULL. */
 struct waiting *waiting_of(uint64_t number);
 /* One of its messages waits no more: with the last of them the request is gone. */
@@ -63,6 +71,9 @@ uint64_t digest_of(const uint8_t *datagram, size_t len);
 /* Nothing waits any more. */
 void waiting_clear(void);
 
+/* In which context it asks, as ", context other", or nothing if that isn't known. */
+enum { IN_CONTEXT_WORDS = 160 };
+void in_context_words(const struct waiting *request, char *words);
 /* Who asks, as "user ann from 192.0.2.9:50112", and what the device was asked, as "get 1.3.6.1.2.1.1.5.0 and 2
  * more". */
 enum { ASKER_WORDS = 240, ASKED_WORDS = 200 };

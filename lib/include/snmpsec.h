@@ -528,7 +528,9 @@ typedef enum snmpsec_gate_text {
     /* of a receiver of notifications: its address, its user, and the word for its level */
     SNMPSEC_GATE_RECEIVER = 6, SNMPSEC_GATE_RECEIVER_USER = 7, SNMPSEC_GATE_RECEIVER_LEVEL = 8,
     /* how it is notified: "trap" or "inform" */
-    SNMPSEC_GATE_RECEIVER_KIND = 9
+    SNMPSEC_GATE_RECEIVER_KIND = 9,
+    /* a read view that access rows name and no family row has, each once: nobody sees anything by it */
+    SNMPSEC_GATE_VIEW_WITHOUT_FAMILY = 10
 } snmpsec_gate_text;
 /* Copies it: SNMPSEC_NOTHING_TAKEN: nothing is said there; SNMPSEC_SHORT_BUFFER, and *written says how much is wanted;
  * SNMPSEC_OUT_OF_MEMORY. */
@@ -554,6 +556,10 @@ SNMPSEC_CHECK int snmpsec_gate_due(snmpsec_gate *gate, uint64_t *at);
 /* The datagram that is to be sent, and the client to whom: SNMPSEC_NOTHING_TAKEN, SNMPSEC_SHORT_BUFFER. */
 SNMPSEC_CHECK int snmpsec_gate_message(snmpsec_gate *gate, uint8_t *out, size_t out_len, size_t *written);
 SNMPSEC_CHECK int snmpsec_gate_client(snmpsec_gate *gate, uint8_t *out, size_t out_len, size_t *written);
+/* The contextName in which the messages of a request that waits ask, by its number: SNMPSEC_NOTHING_TAKEN: no such
+ * request waits; SNMPSEC_SHORT_BUFFER, and *written says how much is wanted; SNMPSEC_OUT_OF_MEMORY. */
+SNMPSEC_CHECK int snmpsec_gate_context(snmpsec_gate *gate, uint64_t request, uint8_t *out, size_t out_len,
+                                       size_t *written);
 /* Why the bindings of a device's answer don't answer what it was asked: the first of these from the left. Such a
  * request is answered genErr. */
 typedef enum snmpsec_misfit {

@@ -93,6 +93,11 @@ int snmpsec_gate_client(snmpsec_gate *gate, uint8_t *out, size_t out_len, size_t
     return gate && written ? proved_gate_client(gate, room(out, out_len), out_len, written) : SNMPSEC_BAD_ARGUMENT;
 }
 
+int snmpsec_gate_context(snmpsec_gate *gate, uint64_t request, uint8_t *out, size_t out_len, size_t *written) {
+    return gate && written ? proved_gate_context(gate, request, room(out, out_len), out_len, written)
+        : SNMPSEC_BAD_ARGUMENT;
+}
+
 enum { GATE_NUMBERS = sizeof(snmpsec_gate_info) / sizeof(uint64_t) };
 _Static_assert(GATE_NUMBERS == 10, "the numbers of a gateway lie one after another");
 

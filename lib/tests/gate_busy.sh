@@ -83,6 +83,27 @@ test_check_of_file() {
     has "--check: in capitals" "is an example's engine ID" "$(checked 600)"
 }
 
+# reads VIEW..: a group reads each of these views in a context of its own
+reads() {
+    local view n=0
+    for view; do
+        printf '[[access]]\ngroup = "low"\nprefix = "c%d"\nmodel = 3\nlevel = "noAuthNoPriv"\nmatch = "exact"\nread = "%s"\n' \
+            $n "$view"
+        n=$((n + 1))
+    done >> "$own/gate.toml"
+}
+
+# A read view that no family row has is reported once.
+test_check_of_views() {
+    local without="no family row has it, so nobody sees anything by it"
+    write_own_config
+    check "--check: each read view has a family row" "" "$(checked 600 | grep 'read view')"
+    reads none "view 2" all none "" all2
+    check "--check: those that have none" "snmpsec-gate: read view none: $without
+snmpsec-gate: read view view\x202: $without
+snmpsec-gate: read view all2: $without" "$(checked 600 | grep 'read view')"
+}
+
 # systemd begins it again after five seconds, however often.
 test_units() {
     local unit
@@ -101,6 +122,7 @@ else
     test_lost
     test_late
     test_check_of_file
+    test_check_of_views
     test_units
     end_own_device
 fi

@@ -40,7 +40,9 @@ static void settings(snmpsec_gate *gate) {
     has(gate, "address", SNMPSEC_GATE_ADDRESS, 1, "10.1.0.8:161");
     has(gate, "note", SNMPSEC_GATE_NOTE, 0, "no access row fits its context");
     check("no third address", SNMPSEC_NOTHING_TAKEN, snmpsec_gate_setting(gate, SNMPSEC_GATE_LISTEN, 2, NULL, 0, &len));
-    check("no such setting", SNMPSEC_BAD_ARGUMENT, snmpsec_gate_setting(gate, (snmpsec_gate_text)10, 0, NULL, 0, &len));
+    check("no view without a family", SNMPSEC_NOTHING_TAKEN,
+          snmpsec_gate_setting(gate, SNMPSEC_GATE_VIEW_WITHOUT_FAMILY, 0, NULL, 0, &len));
+    check("no such setting", SNMPSEC_BAD_ARGUMENT, snmpsec_gate_setting(gate, (snmpsec_gate_text)11, 0, NULL, 0, &len));
     check("and nothing is written", 7, (long long)len);
     snmpsec_gate_free(gate);
 }
@@ -51,6 +53,21 @@ static void said(void) {
     settings(gate);
     check("read", 0, read_of(text, &gate));
     settings(gate);
+}
+
+/* The read views that no family row has, each once, of a gateway or of what is read without one. */
+static void views_of(int (*make)(const char *, snmpsec_gate **)) {
+#define ACCESS(prefix, read) \
+    "[[access]]\ngroup = 'g'\nprefix = '" prefix "'\nmodel = 3\nlevel = 'authPriv'\nmatch = 'exact'\nread = '" read "'\n"
+    static const char views[] = HEAD ACCESS("a", "none") ACCESS("b", "v") ACCESS("c", "other") ACCESS("d", "none") ACCESS("e", "")
+        "write = 'w'\nnotify = 'n'\n[[family]]\nview = 'v'\nsubtree = '1'\ninclude = false\n";
+    snmpsec_gate *gate;
+    size_t len = 7;
+    check("views", 0, make(views, &gate));
+    has(gate, "a view that no family row has", SNMPSEC_GATE_VIEW_WITHOUT_FAMILY, 0, "none");
+    has(gate, "another one", SNMPSEC_GATE_VIEW_WITHOUT_FAMILY, 1, "other");
+    check("each once", SNMPSEC_NOTHING_TAKEN, snmpsec_gate_setting(gate, SNMPSEC_GATE_VIEW_WITHOUT_FAMILY, 2, NULL, 0, &len));
+    snmpsec_gate_free(gate);
 }
 
 /* What is read without a gateway has no devices that send, no users and nothing to do. */
@@ -125,6 +142,7 @@ static void nothing_given(void) {
     check("no gateway: due", SNMPSEC_BAD_ARGUMENT, snmpsec_gate_due(NULL, &at));
     check("no gateway: message", SNMPSEC_BAD_ARGUMENT, snmpsec_gate_message(NULL, NULL, 0, &len));
     check("no gateway: client", SNMPSEC_BAD_ARGUMENT, snmpsec_gate_client(NULL, NULL, 0, &len));
+    check("no gateway: context", SNMPSEC_BAD_ARGUMENT, snmpsec_gate_context(NULL, 0, NULL, 0, &len));
     check("no gateway: setting", SNMPSEC_BAD_ARGUMENT, snmpsec_gate_setting(NULL, SNMPSEC_GATE_BOOTS, 0, NULL, 0, &len));
     check("no gateway: numbers", SNMPSEC_BAD_ARGUMENT, snmpsec_gate_numbers(NULL, &info));
     check("no gateway: counters", SNMPSEC_BAD_ARGUMENT, snmpsec_gate_counters(NULL, &counters));
@@ -172,6 +190,21 @@ static const uint8_t answer[] = {
     0x30, 0x35, 2, 1, 1, 4, 5, 0x72, 0x65, 0x61, 0x64, 0x73, 0xa2, 0x29, 2, 1, 1, 2, 1, 0, 2, 1, 0, 0x30, 0x1e, 0x30, 0x0d, 6, 8, 0x2b,
     6, 1, 2, 1, 1, 1, 0, 4, 1, 0x61, 0x30, 0x0d, 6, 8, 0x2b, 6, 1, 2, 1, 1, 5, 0, 4, 1, 0x62};
 
+/* The request of this number asks in the context "pdu". */
+static void context_is(snmpsec_gate *gate, uint64_t request) {
+    uint8_t *out = fenced((const uint8_t *)"xxx", 3);
+    size_t len = 0;
+    check("no room for its context", SNMPSEC_SHORT_BUFFER, snmpsec_gate_context(gate, request, out, 2, &len));
+    check("of three octets", 3, (long long)len);
+    check("nothing is written", 0, memcmp(out, "xxx", 3));
+    check("its context", 0, snmpsec_gate_context(gate, request, out, 3, &len));
+    check("is that of the message", 0, memcmp(out, "pdu", 3));
+    check("another request's", SNMPSEC_NOTHING_TAKEN, snmpsec_gate_context(gate, request + 1, out, 3, &len));
+    left = 0;
+    check("without memory", SNMPSEC_OUT_OF_MEMORY, snmpsec_gate_context(gate, request, out, 3, &len));
+    left = -1;
+}
+
 /* How many bindings of a device's answer the view hides. */
 static void hidden_counted(void) {
     static const char views[] = HEAD DEVICE "[[user]]\nname = 'ann'\nauth = 'sha256'\nauth-password = 'maplesyrup'\n"
@@ -191,6 +224,7 @@ static void hidden_counted(void) {
     check("joins", SNMPSEC_GATE_JOINS, event);
     check("its numbers", 0, snmpsec_gate_numbers(gate, &info));
     check("by a GetRequest too", SNMPSEC_GET_REQUEST, (long long)info.pdu);
+    context_is(gate, info.request);
     check("its device", 0, snmpsec_gate_next(gate, 1000, 1, 1, &event, &why));
     check("is asked", SNMPSEC_GATE_TO_DEVICE, event);
     check("what comes from it", 0, snmpsec_gate_take_device(gate, 1000, 0, answer, sizeof answer, &event));
@@ -236,6 +270,8 @@ static void refused_memory(void) {
 int main(int argc, char **argv) {
     read_capture(argc, argv);
     said();
+    views_of(made);
+    views_of(read_of);
     nobody_answered();
     nested_behind_strings();
     refused_texts();

@@ -93,7 +93,13 @@ test_lines_of_sets() {
 
 test_lines_of_refusals() {
     has "another context" "snmpUnknownContexts" "$(context=other asks get $system.1.0)"
-    tells "has a line" "^unhandled, $asker: snmpUnknownContexts\$"
+    tells "has a line" "^unhandled, $asker, context other: snmpUnknownContexts\$"
+    context="plant 7" asks get $system.1.0 > /dev/null
+    tells "which has a blank as \\x20" "^unhandled, $asker, context plant\\\\x207: snmpUnknownContexts\$"
+    context="" asks get $system.1.0 > /dev/null
+    tells "and of the default context quotes" "^unhandled, $asker, context \"\": snmpUnknownContexts\$"
+    context=0123456789abcdef0123456789abcdefg asks get $system.1.0 > /dev/null
+    tells "and of a longer one how long it is" "^unhandled, $asker, a context of 33 octets: snmpUnknownContexts\$"
 }
 
 test_counts_told() {
@@ -106,7 +112,7 @@ test_counts_told() {
     counted "what is no Response" 'snmpsec_gate_device_total{device="pdu",event="unreadable"} 1'
     counted "an error-status" 'snmpsec_gate_answers_total{error_status="noAccess"} 1'
     counted "one that a client was told" 'snmpsec_gate_responses_total{error_status="noAccess"} 1'
-    counted "a Report on a request" 'snmpsec_gate_request_reports_total 1'
+    counted "Reports on requests" 'snmpsec_gate_request_reports_total 4'
     counted "what didn't fit" 'snmpsec_gate_misfits_total{misfit="other_name"} 1'
     counted "and what had no value" 'snmpsec_gate_misfits_total{misfit="no_value"} 1'
     counted "what took too many rounds" 'snmpsec_gate_rounds_used_up_total 1'

@@ -155,6 +155,31 @@ static void sets_again(void) {
     waiting_clear();
 }
 
+/* The request of this number asks in this context, which lines have so. */
+static void in_context(uint64_t number, const char *context, size_t len, const char *expected) {
+    char words[IN_CONTEXT_WORDS];
+    waiting_context(number, fenced((const uint8_t *)context, len), len);
+    in_context_words(waiting_of(number), words);
+    check(expected, 0, strcmp(words, expected));
+}
+
+static void contexts(void) {
+    struct client client = {.listener = 1};
+    char words[IN_CONTEXT_WORDS] = "x";
+    in_context_words(NULL, words);
+    check("no request", 0, strcmp(words, ""));
+    waiting_begins(1, &client, (const uint8_t *)"ann", 3, 0);
+    in_context_words(waiting_of(1), words);
+    check("a context that isn't known", 0, strcmp(words, ""));
+    in_context(1, "rack-1", 6, ", context rack-1");
+    in_context(1, "", 0, ", context \"\"");
+    in_context(1, "plant 7\n\xff\\", 10, ", context plant\\x207\\x0a\\xff\\x5c");
+    in_context(1, "0123456789abcdef0123456789abcdef", 32, ", context 0123456789abcdef0123456789abcdef");
+    in_context(1, "0123456789abcdef0123456789abcdef0", 33, ", a context of 33 octets");
+    waiting_context(2, (const uint8_t *)"x", 1);
+    waiting_clear();
+}
+
 static void broken_datagrams(void) {
     uint8_t copy[sizeof asked];
     struct pdu pdu;
@@ -210,6 +235,7 @@ int main(void) {
     whole_datagrams();
     what_was_asked();
     sets_again();
+    contexts();
     broken_datagrams();
     names();
     octets_shown();

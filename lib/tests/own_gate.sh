@@ -108,11 +108,11 @@ end_own_device() {
     { kill "$device" && wait "$device"; } 2> /dev/null
 }
 
-# asks COMMAND WORDS..: as sha256, of the device pdu
+# asks COMMAND WORDS..: as sha256, of the device pdu or in $context
 asks() {
     local command=$1 privacy=a-third-one
     shift
-    ours "$command" -u sha256 -n "${context:-pdu}" -t "${patience:-3}" -r 0 "$through" "$@"
+    ours "$command" -u sha256 -n "${context-pdu}" -t "${patience:-3}" -r 0 "$through" "$@"
 }
 
 # tells NAME PATTERN: a line of the gateway has this, at most 10 seconds later

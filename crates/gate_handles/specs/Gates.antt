@@ -37,6 +37,7 @@ use Rattle.snmp_gate.specs.declared.gate.DeviceTaken.TheVariants as device
 use Rattle.snmp_gate.specs.declared.gate.Sent.{Sent}
 use Rattle.snmp_gate.specs.declared.gate.Sent.TheVariants as out
 use Rattle.snmpsec_gate_config.specs.Refusals.{Loads, RefusesText, SaysSound}
+use Rattle.snmpsec_gate_config.specs.Views.{views_without_family}
 use Rattle.snmpsec_gate_config.specs.declared.fault.GateFault.{GateFault}
 use Rattle.snmpsec_gate_config.specs.declared.settings.GateSettings.{GateSettings}
 use Rattle.snmpsec_gate_config.specs.declared.settings.DeviceSettings.{DeviceSettings}
@@ -58,6 +59,8 @@ pub record GateHeld : Type 0 where
   pub devices : List DeviceSettings
   pub receivers : List ReceiverSettings
   pub access : List AccessRow
+  -- the read views of access rows that no family row has
+  pub views : List (List ℕ)
   -- the request and the device that the last call was about, if it was about one
   pub request : ℕ
   pub device : ℕ
@@ -121,8 +124,8 @@ pub record IsQuiet (held : GateHeld) : Type 0 where
   pub client : held.client ≡ None
   pub note : held.note ≡ note.Nothing
 
--- the access rows are those of the text
-pub record IsAccessOf (config : List ℕ) (access : List AccessRow) : Type 0 where
+-- the access rows are those of the text, and the views their read views that no family row has
+pub record IsAccessOf (config : List ℕ) (access : List AccessRow) (views : List (List ℕ)) : Type 0 where
   pub settings : GateSettings
   pub devices : List DeviceSettings
   pub receivers : List ReceiverSettings
@@ -130,6 +133,7 @@ pub record IsAccessOf (config : List ℕ) (access : List AccessRow) : Type 0 whe
   pub rows : Tables
   pub sound : SaysSound config settings devices receivers users rows
   pub is : access ≡ rows.access
+  pub views_are : views ≡ views_without_family rows.families rows.access
 
 -- a gateway to these devices, with the agent that begins so, that nothing has reached
 pub record IsNewGate (agent : AgentState) (devices : List DeviceSettings) (gate : Gate) : Type 0 where
@@ -145,7 +149,7 @@ pub record IsGateOf (config : List ℕ) (boots started : ℕ) (made : GateHeld) 
   pub users : List User
   pub tables : Tables
   pub loads : Loads config made.settings made.devices made.receivers users tables
-  pub access : IsAccessOf config made.access
+  pub access : IsAccessOf config made.access made.views
   pub gate : IsNewGate (begins made.settings.engine boots started users tables).agent made.devices made.gate
   pub limits : made.gate.limits ≡ limits_said made.settings
   pub quiet : IsQuiet made
@@ -161,6 +165,7 @@ pub record IsSaid (config : List ℕ) (made : GateHeld) : Type 0 where
   pub rows : Tables
   pub sound : SaysSound config made.settings made.devices made.receivers users rows
   pub access : made.access ≡ rows.access
+  pub views : made.views ≡ views_without_family rows.families rows.access
   pub agent : IsAgentWithoutUsers made.settings.engine rows made.gate.agent
   pub gate : IsNewGate made.gate.agent [] made.gate
   pub limits : made.gate.limits ≡ limits_said made.settings
@@ -197,6 +202,7 @@ pub record KeepsSaid (old new : GateHeld) : Type 0 where
   pub devices : new.devices ≡ old.devices
   pub receivers : new.receivers ≡ old.receivers
   pub access : new.access ≡ old.access
+  pub views : new.views ≡ old.views
 
 -- there is no memory, nothing is to be sent, and the gateway is as before, at this moment in milliseconds
 pub record RunsOut (old : GateHeld) (now : ℕ) (told : Result GateEvent CallFault) (new : GateHeld) : Type 0 where
@@ -306,6 +312,7 @@ pub record IsEmpty (new : GateHeld) : Type 0 where
   pub no_devices : new.devices ≡ []
   pub no_receivers : new.receivers ≡ []
   pub no_access : new.access ≡ []
+  pub no_views : new.views ≡ []
   pub quiet : IsQuiet new
 
 abbrev pub Empties : GateHeld → Result ⊤ CallFault → GateHeld → Type 0

@@ -1,9 +1,10 @@
--- What a caller gets of a gateway: what its configuration says, its numbers and counters, why a configuration is
--- refused, and the user of a datagram.
+-- What a caller gets of a gateway: what its configuration says, the context of a request, its numbers and counters, why
+-- a configuration is refused, and the user of a datagram.
 --
--- `ReadsSetting`, `IsSetting`: a text that the configuration says. `MayNotify`: whether a receiver may be notified of a
--- variable. `numbers_of`: whom the last call was about. `CountsOf`: a counter of the agent. `TellsGate`: why a text is
--- refused as a configuration. `CopiesUser`: the user that a datagram names.
+-- `ReadsSetting`, `IsSetting`: a text that the configuration says. `ReadsContext`: the context in which a request's
+-- messages ask. `MayNotify`: whether a receiver may be notified of a variable. `numbers_of`: whom the last call was
+-- about. `CountsOf`: a counter of the agent. `TellsGate`: why a text is refused as a configuration. `CopiesUser`: the
+-- user that a datagram names.
 use Rattle.std.specs.Prelude.{◌≡◌, ◌<◌, ◌≤◌, ◌⊎◌, ⊤, ℕ, List}
 use Rattle.std.specs.Prelude.{◌∷◌, ◌++◌, length, drop, codes, string_bytes, slice_get, if◌then◌else◌, ◌==◌}
 use Rattle.std.specs.Prelude.{Option, Some, None, option_map, MatchOption, Result, Ok, Err}
@@ -16,6 +17,7 @@ use Rattle.snmp_message.specs.Security.{SecText, Fields}
 use Rattle.snmp_message.specs.declared.refusal.Refusal.{Refusal}
 use Rattle.snmp_message.specs.declared.refusal.Refusal.TheVariants.{OutOfMemory}
 use Rattle.snmp_agent.specs.RefusalCounters.{counter_at}
+use Rattle.snmp_gate.specs.RequestTags.{TellsContext}
 use Rattle.snmpsec_gate_config.specs.Oddities.{TellsOddity, oddity_words}
 use Rattle.snmpsec_gate_config.specs.Refusals.{RefusesText, SaysSound, refusal_line}
 use Rattle.snmpsec_gate_config.specs.Told.{IsWhy}
@@ -48,7 +50,8 @@ setting_of n =
     else if n == 3 then Some setting.Address else
     if n == 4 then Some setting.Note else if n == 5 then Some setting.Traps else
     if n == 6 then Some setting.ReceiverAddress else if n == 7 then Some setting.ReceiverUser else
-    if n == 8 then Some setting.ReceiverLevel else if n == 9 then Some setting.ReceiverKind else None
+    if n == 8 then Some setting.ReceiverLevel else if n == 9 then Some setting.ReceiverKind else
+    if n == 10 then Some setting.ViewWithoutFamily else None
 
 -- what is probably a mistake about the device at this position, in words
 abbrev pub IsNote : List DeviceSettings → List AccessRow → ℕ → Option (List ℕ) → Type 0
@@ -57,33 +60,44 @@ IsNote devices access position text = MatchOption (slice_get devices position) (
     × (text ≡ option_map oddity_words oddity))
 
 -- the text that is said so, at this position, if one is
-abbrev pub IsSetting : GateSettings → List DeviceSettings → List ReceiverSettings → List AccessRow → GateText → ℕ
-    → Option (List ℕ) → Type 0
-IsSetting said devices receivers access setting.Boots position text = text ≡ Some (string_bytes said.boots)
-IsSetting said devices receivers access setting.Listen position text =
+abbrev pub IsSetting : GateSettings → List DeviceSettings → List ReceiverSettings → List AccessRow → List (List ℕ)
+    → GateText → ℕ → Option (List ℕ) → Type 0
+IsSetting said devices receivers access views setting.Boots position text = text ≡ Some (string_bytes said.boots)
+IsSetting said devices receivers access views setting.Listen position text =
     text ≡ option_map socket_text (slice_get said.listen.items position)
-IsSetting said devices receivers access setting.Context position text =
+IsSetting said devices receivers access views setting.Context position text =
     text ≡ option_map (λ device. device.context) (slice_get devices position)
-IsSetting said devices receivers access setting.Address position text =
+IsSetting said devices receivers access views setting.Address position text =
     text ≡ option_map (λ device. socket_text device.address) (slice_get devices position)
-IsSetting said devices receivers access setting.Note position text = IsNote devices access position text
-IsSetting said devices receivers access setting.Traps position text =
+IsSetting said devices receivers access views setting.Note position text = IsNote devices access position text
+IsSetting said devices receivers access views setting.Traps position text =
     text ≡ option_map socket_text (slice_get said.traps.items position)
-IsSetting said devices receivers access setting.ReceiverAddress position text =
+IsSetting said devices receivers access views setting.ReceiverAddress position text =
     text ≡ option_map (λ receiver. socket_text receiver.address) (slice_get receivers position)
-IsSetting said devices receivers access setting.ReceiverUser position text =
+IsSetting said devices receivers access views setting.ReceiverUser position text =
     text ≡ option_map (λ receiver. receiver.user) (slice_get receivers position)
-IsSetting said devices receivers access setting.ReceiverLevel position text =
+IsSetting said devices receivers access views setting.ReceiverLevel position text =
     text ≡ option_map (λ receiver. level_word receiver.level) (slice_get receivers position)
-IsSetting said devices receivers access setting.ReceiverKind position text =
+IsSetting said devices receivers access views setting.ReceiverKind position text =
     text ≡ option_map (λ receiver. kind_word receiver.kind) (slice_get receivers position)
+IsSetting said devices receivers access views setting.ViewWithoutFamily position text = text ≡ slice_get views position
 
 -- It is copied; or there is no memory for it.
 abbrev pub ReadsSetting : GateHeld → GateText → ℕ → List ℕ → List ℕ → ℕ → ℕ → Result ⊤ CallFault → Type 0
 ReadsSetting held which position out out_new written written_new told =
-    ((text : Option (List ℕ)) × IsSetting held.settings held.devices held.receivers held.access which
+    ((text : Option (List ℕ)) × IsSetting held.settings held.devices held.receivers held.access held.views which
     position text
     × CopiesMessage text out out_new written written_new told)
+    ⊎ ((told ≡ Err (Refused OutOfMemory)) × CopiesNothing out out_new written written_new)
+
+-- ---- a request
+
+-- The contextName in which the messages of the request with this number ask is copied, if it waits; or there is no
+-- memory for it.
+abbrev pub ReadsContext : GateHeld → ℕ → List ℕ → List ℕ → ℕ → ℕ → Result ⊤ CallFault → Type 0
+ReadsContext held number out out_new written written_new told =
+    ((context : Option (List ℕ)) × TellsContext held.gate.requests.list.items number context
+    × CopiesMessage context out out_new written written_new told)
     ⊎ ((told ≡ Err (Refused OutOfMemory)) × CopiesNothing out out_new written written_new)
 
 -- ---- who may be notified

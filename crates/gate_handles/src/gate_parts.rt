@@ -5,6 +5,7 @@ ghost use Rattle.snmp_message.specs.declared.refusal.Refusal.TheVariants.{OutOfM
 ghost use Rattle.vacm_core.specs.Tables.{tables_of};
 ghost use Rattle.snmpsec_gate_config.specs.Refusals.{Loads, Refuses, SaysSound};
 ghost use Rattle.snmpsec_gate_config.specs.Rows.{HaveOwnContexts};
+ghost use Rattle.snmpsec_gate_config.specs.Views.{views_without_family};
 ghost use Rattle.snmp_handles.specs.declared.fault.CallFault.TheVariants.{Refused};
 ghost use Rattle.gate_handles.specs.Gates.{RefusesConfig, IsAccessOf, IsNewGate, IsEmptyAgent};
 ghost use Rattle.gate_handles.specs.Gates.{IsAgentWithoutUsers, limits_said};
@@ -17,10 +18,11 @@ use snmp_gate::{Devices, Gate};
 use snmp_handles::CallFault;
 use snmpsec_gate_config::{
     DeviceSettings, GateConfig, GateFault, GateRows, GateSettings, GatewayLimits,
+    views_without_family,
 };
 use std::alloc::{AllocError, Global};
 use usm_core::{UserRow, Users};
-use vacm_core::{AccessRow, Rows, Vacm};
+use vacm_core::{AccessRow, Name, Rows, Vacm};
 
 /// Returns the fault of a call that was given a text that is refused so.
 fn fault_of(fault: &GateFault) -> CallFault
@@ -45,15 +47,38 @@ pub(crate) fn rows_of(alloc: Global, config: &[u8]) -> Result<GateRows, CallFaul
     }
 }
 
-/// Returns the access rows that a configuration says.
-pub(crate) fn access_of(alloc: Global, config: &[u8]) -> Result<Vec<AccessRow>, CallFault>
-    ensures access { IfOk result (λ access. IsAccessOf config.now access.items) }
+/// Returns the read views that no family row has.
+pub(crate) fn views_of(alloc: Global, rows: &Rows) -> Result<Vec<Name>, CallFault>
+    ensures views { IfOk result (λ views. views.items
+        ≡ views_without_family rows.now.families.items rows.now.access.items) }
+    ensures no_memory { IfErr result (λ fault. fault ≡ Refused OutOfMemory) }
+{
+    match views_without_family(alloc, rows) {
+        Ok(views) => Ok(views),
+        Err(_) => Err(NO_MEMORY),
+    }
+}
+
+/// The access rows that a configuration says, and the read views of theirs that no family row has.
+#[derive(Drop)]
+pub(crate) struct SaidAccess {
+    pub(crate) access: Vec<AccessRow>,
+    pub(crate) views: Vec<Name>,
+}
+
+/// Returns what a configuration says of access.
+pub(crate) fn access_of(alloc: Global, config: &[u8]) -> Result<SaidAccess, CallFault>
+    ensures access { IfOk result (λ said. IsAccessOf config.now said.access.items said.views.items) }
     ensures refuses { IfErr result (RefusesConfig config.now) }
 {
     let said = rows_of(alloc, config)?;
     let rows = said.rows;
+    let views = views_of(alloc, &rows.access)?;
     let tables = rows.access;
-    Ok(tables.access)
+    Ok(SaidAccess {
+        access: tables.access,
+        views,
+    })
 }
 
 /// Returns what a configuration says.

@@ -7,11 +7,12 @@ ghost use Rattle.snmp_handles.specs.Parts.{CopiesMessage};
 ghost use Rattle.gate_handles.specs.Gates.{MakesGate, Empties, IsGateDue};
 ghost use Rattle.gate_handles.specs.Gates.{TakesClient, TakesDevice, SendsNext};
 ghost use Rattle.gate_handles.specs.Gates.{ReadsGate};
-ghost use Rattle.gate_handles.specs.Told.{CountsOf, MayNotify, ReadsSetting, numbers_of};
+ghost use Rattle.gate_handles.specs.Told.{CountsOf, MayNotify, ReadsContext, ReadsSetting, numbers_of};
 
 use crate::event::GateEvent;
 use crate::gate_parts::{
-    access_of, agent_without_users, config_of, empty_agent, empty_settings, gate_of, rows_of,
+    SaidAccess, access_of, agent_without_users, config_of, empty_agent, empty_settings, gate_of,
+    rows_of, views_of,
 };
 use crate::note::GateNote;
 use crate::setting::{GateText, setting_text};
@@ -24,7 +25,7 @@ use snmp_outgoing::Counter;
 use snmpsec_gate_config::{DeviceSettings, GateConfig, GateRows, GateSettings, ReceiverSettings};
 use std::alloc::Global;
 use std::marker::Model;
-use vacm_core::{Access, AccessRow, ViewType};
+use vacm_core::{Access, AccessRow, Name, ViewType};
 
 /// A gateway, what its configuration says, and what came of the last call.
 #[derive(Drop)]
@@ -35,6 +36,8 @@ pub struct GateHandle {
     pub(crate) devices: Vec<DeviceSettings>,
     pub(crate) receivers: Vec<ReceiverSettings>,
     pub(crate) access: Vec<AccessRow>,
+    /// The read views of access rows that no family row has.
+    pub(crate) views: Vec<Name>,
     pub(crate) request: u64,
     pub(crate) device: usize,
     pub(crate) message: Option<Vec<u8>>,
@@ -58,6 +61,7 @@ impl Model for GateHandle {
       devices = h.devices.items;
       receivers = h.receivers.items;
       access = h.access.items;
+      views = h.views.items;
       request = h.request;
       device = h.device;
       message = option_map (λ v. v.items) h.message;
@@ -85,7 +89,7 @@ impl GateHandle {
         if boots > MAX_INTEGER32 {
             return Err(CallFault::BadArgument);
         }
-        let access = access_of(alloc, config)?;
+        let SaidAccess { access, views } = access_of(alloc, config)?;
         let said = config_of(alloc, config)?;
         let GateConfig {
             gate: settings,
@@ -105,6 +109,7 @@ impl GateHandle {
             devices,
             receivers,
             access,
+            views,
             request: 0,
             device: 0,
             message: None,
@@ -129,6 +134,7 @@ impl GateHandle {
             rows,
         } = said;
         let agent = agent_without_users(alloc, settings.engine.copy(), &rows.access)?;
+        let views = views_of(alloc, &rows.access)?;
         let none = Vec::new(alloc);
         let Ok(gate) = gate_of(alloc, agent, &settings, &none) else {
             return Err(NO_MEMORY);
@@ -141,6 +147,7 @@ impl GateHandle {
             devices,
             receivers,
             access: tables.access,
+            views,
             request: 0,
             device: 0,
             message: None,
@@ -165,6 +172,7 @@ impl GateHandle {
         self.devices = devices;
         self.receivers = Vec::new(self.alloc);
         self.access = Vec::new(self.alloc);
+        self.views = Vec::new(self.alloc);
         self.message = None;
         self.client = None;
         self.note = GateNote::Nothing;
@@ -249,6 +257,22 @@ impl GateHandle {
         copied_message(&self.client, out, written)
     }
 
+    /// Copies the contextName in which the messages of the request with this number ask (RFC 3412, section 6.8), in
+    /// the same way. The errors are NothingTaken, if no such request waits, ShortBuffer, and out of memory.
+    pub fn context(
+        &self,
+        request: u64,
+        out: &mut [u8],
+        written: &mut usize,
+    ) -> Result<(), CallFault>
+        ensures { ReadsContext self.now request out.old out.new written.old written.new result }
+    {
+        match self.gate.request_context(request) {
+            Ok(context) => copied_message(&context, out, written),
+            Err(_) => Err(NO_MEMORY),
+        }
+    }
+
     /// Copies what the configuration says at this position, counted from 0, in the same way: the setting's text, or a
     /// part of it for one device or one address. The errors are NothingTaken, if it says nothing there, ShortBuffer,
     /// and out of memory.
@@ -267,6 +291,7 @@ impl GateHandle {
             &self.devices,
             &self.receivers,
             &self.access,
+            &self.views,
             setting,
             position,
         );

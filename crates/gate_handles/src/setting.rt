@@ -13,7 +13,7 @@ use snmpsec_gate_config::{
 };
 use std::alloc::{AllocError, Global};
 use std::net::SocketAddr;
-use vacm_core::AccessRow;
+use vacm_core::{AccessRow, Name};
 
 /// What a gateway's configuration says, as texts.
 #[derive(Clone, Copy, Debug, PartialEq, Eq)]
@@ -38,11 +38,13 @@ pub enum GateText {
     ReceiverLevel,
     /// How a receiver is notified.
     ReceiverKind,
+    /// A read view of access rows that no family row has.
+    ViewWithoutFamily,
 }
 
 impl GateText {
     /// Returns the setting of this number: 0 boots, 1 listen, 2 context, 3 address, 4 note, 5 traps, 6 the
-    /// address of a receiver, 7 its user, 8 its level, 9 how it is notified.
+    /// address of a receiver, 7 its user, 8 its level, 9 how it is notified, 10 a read view that no family row has.
     pub fn of(number: u32) -> Option<GateText>
         ensures { result ≡ setting_of number }
     {
@@ -57,6 +59,7 @@ impl GateText {
             7 => Some(GateText::ReceiverUser),
             8 => Some(GateText::ReceiverLevel),
             9 => Some(GateText::ReceiverKind),
+            10 => Some(GateText::ViewWithoutFamily),
             _ => None,
         }
     }
@@ -219,6 +222,17 @@ fn kind_text(
     Ok(Some(text))
 }
 
+/// Returns the view at this position.
+fn view_text(alloc: Global, views: &[Name], position: usize) -> Result<Option<Vec<u8>>, AllocError>
+    ensures { IfOk result (λ text. option_map (λ v. v.items) text ≡ slice_get views.now position) }
+{
+    let Some(view) = views.get(position) else {
+        return Ok(None);
+    };
+    let text = Vec::from_slice(alloc, view.as_slice())?;
+    Ok(Some(text))
+}
+
 /// Returns what the configuration says at this position. None: it says nothing there.
 pub(crate) fn setting_text(
     alloc: Global,
@@ -226,10 +240,11 @@ pub(crate) fn setting_text(
     devices: &[DeviceSettings],
     receivers: &[ReceiverSettings],
     access: &[AccessRow],
+    views: &[Name],
     setting: GateText,
     position: usize,
 ) -> Result<Option<Vec<u8>>, AllocError>
-    ensures { IfOk result (λ text. IsSetting said.now devices.now receivers.now access.now setting position
+    ensures { IfOk result (λ text. IsSetting said.now devices.now receivers.now access.now views.now setting position
         (option_map (λ v. v.items) text)) }
 {
     match setting {
@@ -246,5 +261,6 @@ pub(crate) fn setting_text(
         GateText::ReceiverUser => user_text(alloc, receivers, position),
         GateText::ReceiverLevel => level_text(alloc, receivers, position),
         GateText::ReceiverKind => kind_text(alloc, receivers, position),
+        GateText::ViewWithoutFamily => view_text(alloc, views, position),
     }
 }

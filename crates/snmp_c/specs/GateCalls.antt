@@ -2,8 +2,9 @@
 --
 -- `MakesGateway`: the answer of `_new`; `ReadsConfiguration`: that of `_read`. `TakesFromClient`, `TakesFromDevice`,
 -- `SendsDue`: the answer is the number of what becomes of a datagram and of what goes out (`Eventful`). `TellsDue`,
--- `TellsDatagram`, `TellsClientOf`, `TellsSetting`, `TellsMayNotify`, `TellsNumbersOf`, `GateCounter`, `GateCount`,
--- `ClearsGate`: what each export answers and leaves. `TellsGateConfiguration`, `TellsUser`: those without a handle.
+-- `TellsDatagram`, `TellsClientOf`, `TellsContextOf`, `TellsSetting`, `TellsMayNotify`, `TellsNumbersOf`,
+-- `GateCounter`, `GateCount`, `ClearsGate`: what each export answers and leaves. `TellsGateConfiguration`,
+-- `TellsUser`: those without a handle.
 use Rattle.std.specs.Prelude.{◌≡◌, ◌≤◌, ◌<◌, ◌⊎◌, ℕ, ℤ, pos, List, ◌++◌, length, drop, MatchOption, Some, None, Result}
 use Rattle.std.specs.Int.{to_be_bytes, w64}
 use Rattle.snmp_agent.specs.Counts.{count_at}
@@ -15,7 +16,7 @@ use Rattle.snmp_handles.specs.declared.fault.CallFault.TheVariants.{BadArgument,
 use Rattle.gate_handles.specs.Events.{event_code}
 use Rattle.gate_handles.specs.Gates.{GateHeld, MakesGate, ReadsGate, TakesClient, TakesDevice, SendsNext, Empties}
 use Rattle.gate_handles.specs.Gates.{IsGateDue}
-use Rattle.gate_handles.specs.Told.{setting_of, ReadsSetting, MayNotify, CountsOf, TellsGate, CopiesUser}
+use Rattle.gate_handles.specs.Told.{setting_of, ReadsContext, ReadsSetting, MayNotify, CountsOf, TellsGate, CopiesUser}
 use Rattle.gate_handles.specs.Told.{numbers_of}
 use Rattle.vacm_core.specs.declared.access.Access.{Access}
 use Rattle.gate_handles.specs.declared.event.GateEvent.{GateEvent}
@@ -60,6 +61,10 @@ TellsDatagram out out_new written written_new old new answer = (new ≡ old)
 abbrev pub TellsClientOf : List ℕ → List ℕ → ℕ → ℕ → GateHeld → GateHeld → ℤ → Type 0
 TellsClientOf out out_new written written_new old new answer = (new ≡ old)
     × Done (λ told. CopiesMessage old.client out out_new written written_new told) answer
+
+abbrev pub TellsContextOf : ℕ → List ℕ → List ℕ → ℕ → ℕ → GateHeld → GateHeld → ℤ → Type 0
+TellsContextOf request out out_new written written_new old new answer = (new ≡ old)
+    × Done (λ told. ReadsContext old request out out_new written written_new told) answer
 
 abbrev pub TellsSetting : ℕ → ℕ → List ℕ → List ℕ → ℕ → ℕ → GateHeld → GateHeld → ℤ → Type 0
 TellsSetting which position out out_new written written_new old new answer = (new ≡ old)

@@ -9,13 +9,13 @@ ghost use Rattle.snmp_handles.specs.Faults.{fault_code};
 ghost use Rattle.snmp_handles.specs.declared.fault.CallFault.TheVariants.{Refused};
 ghost use Rattle.snmp_message.specs.declared.refusal.Refusal.TheVariants.{OutOfMemory};
 ghost use Rattle.snmp_c.specs.GateCalls.{MakesGateway, ReadsConfiguration, ClearsGate, TakesFromClient};
-ghost use Rattle.snmp_c.specs.GateCalls.{TakesFromDevice, SendsDue};
+ghost use Rattle.snmp_c.specs.GateCalls.{TakesFromDevice, SendsDue, TellsContextOf};
 ghost use Rattle.snmp_c.specs.GateCalls.{TellsDue, TellsDatagram, TellsClientOf, TellsSetting, TellsNumbersOf};
 ghost use Rattle.snmp_c.specs.GateCalls.{GateCounter, GateCount, TellsGateConfiguration, TellsMayNotify, TellsUser};
 
 use crate::gate_calls::{
-    clear, client, count, counter, due, may_notify, message, next, numbers, setting, take_client,
-    take_device,
+    clear, client, context, count, counter, due, may_notify, message, next, numbers, setting,
+    take_client, take_device,
 };
 use gate_handles::{GateHandle, copied_user, tell_gate_config};
 use snmp_handles::{CallFault, code_of};
@@ -210,11 +210,30 @@ pub unsafe extern "C" fn proved_gate_client(at: *mut u8, out: &mut [u8], written
     client(&mut *(at as *mut GateHandle), out, written)
 }
 
+/// Copies the contextName in which the messages of the request with this number ask, in the same way. It answers -2
+/// where no such request waits, and 14 if memory runs out.
+#[unsafe(no_mangle)]
+pub unsafe extern "C" fn proved_gate_context(
+    at: *mut u8,
+    request: u64,
+    out: &mut [u8],
+    written: &mut usize,
+) -> i32
+    ghost held: { GateHeld }
+    requires* { sem 𝓛 (lies_at gates.the_row full_share at held) }
+    ensures* { ∃ₛ (λ (new : GateHeld). sem 𝓛
+        (lies_at gates.the_row full_share at new) ∗ ⌜ TellsContextOf request out.old out.new written.old written.new
+        held new result ⌝) }
+{
+    context(&mut *(at as *mut GateHandle), request, out, written)
+}
+
 /// Copies what the configuration says, in the same way: 0 the path of the boots file; 1 the address at which it
 /// listens at this position, counted from 0; 2 the contextName of the device at this position, 3 its address, and 4
 /// what about it is probably a mistake; 5 the address at which it takes Traps; 6 the address of the receiver at this
-/// position, 7 the name of its user, 8 the word for its level, and 9 `trap` or `inform`. It answers -1 where nothing
-/// has the number, -2 where nothing is said at the position, and 14 if memory runs out.
+/// position, 7 the name of its user, 8 the word for its level, and 9 `trap` or `inform`; 10 the read view at this
+/// position, of those that access rows name and no family row has. It answers -1 where nothing has the number, -2 where
+/// nothing is said at the position, and 14 if memory runs out.
 #[unsafe(no_mangle)]
 pub unsafe extern "C" fn proved_gate_setting(
     at: *mut u8,

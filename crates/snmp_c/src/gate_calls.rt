@@ -2,7 +2,7 @@
 
 ghost use Rattle.snmp_c.specs.GateCalls.{ClearsGate, TakesFromClient, TakesFromDevice, SendsDue, TellsDue};
 ghost use Rattle.snmp_c.specs.GateCalls.{TellsDatagram, TellsClientOf, TellsSetting, TellsNumbersOf, GateCounter};
-ghost use Rattle.snmp_c.specs.GateCalls.{GateCount, TellsMayNotify};
+ghost use Rattle.snmp_c.specs.GateCalls.{GateCount, TellsContextOf, TellsMayNotify};
 
 use gate_handles::{GateHandle, GateText, event_code_of};
 use snmp_handles::{CallFault, access_code_of, code_of, counter_of, value_code_of};
@@ -53,6 +53,18 @@ pub(crate) fn client(handle: &mut GateHandle, out: &mut [u8], written: &mut usiz
     ensures { TellsClientOf out.old out.new written.old written.new handle.old handle.new result }
 {
     code_of(handle.client(out, written))
+}
+
+/// Copies the context of the request of this number.
+pub(crate) fn context(
+    handle: &mut GateHandle,
+    request: u64,
+    out: &mut [u8],
+    written: &mut usize,
+) -> i32
+    ensures { TellsContextOf request out.old out.new written.old written.new handle.old handle.new result }
+{
+    code_of(handle.context(request, out, written))
 }
 
 /// Copies what the configuration says by this number.

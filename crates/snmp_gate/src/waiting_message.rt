@@ -22,7 +22,7 @@ pub struct WaitingMessage {
 }
 
 /// Returns who asks by an accepted message, and what.
-fn message_of<'a>(client: &'a [u8], taken: &'a Taken<'_>) -> ClientMessage<'a>
+pub(crate) fn message_of<'a>(client: &'a [u8], taken: &'a Taken<'_>) -> ClientMessage<'a>
     ensures { question_given client.now (given_of taken.now) ≡ Some (question_of result) }
 {
     let scoped = taken.scoped();

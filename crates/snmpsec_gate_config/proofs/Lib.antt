@@ -1,3 +1,4 @@
+mod Added
 pub mod Told
 pub mod Addresses
 pub mod Tops

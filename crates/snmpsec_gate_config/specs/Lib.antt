@@ -7,3 +7,4 @@ pub mod Receivers
 pub mod Refusals
 pub mod Told
 pub mod Oddities
+pub mod Views

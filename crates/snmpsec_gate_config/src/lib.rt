@@ -47,6 +47,7 @@ mod receiver;
 mod settings;
 mod table;
 mod values;
+mod view;
 
 pub use config::{GateConfig, GateRows};
 pub use fault::{GateFault, GateKeyFault};
@@ -58,3 +59,4 @@ pub use settings::{
     DeviceLimits, DeviceSettings, GateSettings, GatewayLimits, ReceiverKind, ReceiverSettings,
 };
 pub use table::{GateKey, GateTable, LimitKey};
+pub use view::views_without_family;

@@ -38,6 +38,11 @@ view = "all"
 subtree = "1.3.6.1"
 include = true
 """
+# two views that no family row has, of which rows name the first twice
+VIEWS = GATE + b"".join(
+    b"[[access]]\ngroup = 'all'\nprefix = '%d'\nmodel = 3\nlevel = 'authPriv'\nmatch = 'exact'\nread = '%s'\n" % (number, view)
+    for number, view in enumerate((b"none", b"other one", b"all", b"none", b""))
+)
 GATE_ENGINE, MOMENT = bytes.fromhex("80001f8804676174652d31"), 1000 * NOW
 
 
@@ -114,6 +119,16 @@ class Gateway(unittest.TestCase):
             self.assertEqual(self.gate.take_client(MOMENT, b"client", asked), event)
             self.assertEqual(self.gate.pdu(), Pdu.GET)
 
+    def test_a_message_has_its_context(self):
+        self.learn()
+        with self.assertRaises(snmpsec.NothingTaken):
+            self.gate.context()
+        for number, context in (2, b"pdu"), (3, b"plant 7"), (4, b""), (5, bytes(range(200))):
+            asked = self.ask(number, Level.AUTH_PRIV, context=context)
+            for event in (GateEvent.BEGINS, GateEvent.JOINS):
+                self.assertEqual(self.gate.take_client(MOMENT, b"client", asked), event)
+                self.assertEqual(self.gate.context(), context)
+
     def test_bindings_that_are_hidden_are_counted(self):
         self.learn()
         self.gate.take_client(MOMENT, b"client", self.ask(2, Level.AUTH_PRIV))
@@ -152,6 +167,9 @@ class Gateway(unittest.TestCase):
             [device] = gate.devices()
             self.assertEqual((device.context, device.address), (b"pdu", "10.1.0.7:161"))
             self.assertEqual(device.note, "access 0 gives a write view, and it has no write-community")
+            self.assertEqual(gate.views_without_family(), [])
+        for gate in (Gate(VIEWS, BOOTS, 0), Gate.read(VIEWS)):
+            self.assertEqual(gate.views_without_family(), [b"none", b"other one"])
 
     def test_a_refused_configuration_has_its_cause(self):
         text = GATE.replace(b"address", b"adress")

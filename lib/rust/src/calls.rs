@@ -578,6 +578,13 @@ extern "C" {
         len: usize,
         written: *mut usize,
     ) -> i32;
+    pub fn snmpsec_gate_context(
+        gate: *mut Opaque,
+        request: u64,
+        out: *mut u8,
+        len: usize,
+        written: *mut usize,
+    ) -> i32;
     pub fn snmpsec_gate_numbers(gate: *mut Opaque, out: *mut GateInfo) -> i32;
     pub fn snmpsec_gate_counters(gate: *mut Opaque, out: *mut Counters) -> i32;
     pub fn snmpsec_gate_counts(gate: *mut Opaque, out: *mut Counts) -> i32;

@@ -2,8 +2,8 @@
 
 use crate::agent::{told, Counters, Counts};
 use crate::calls::{
-    self, snmpsec_datagram_user, snmpsec_gate_client, snmpsec_gate_counters, snmpsec_gate_counts,
-    snmpsec_gate_due, snmpsec_gate_fault, snmpsec_gate_free, snmpsec_gate_may_notify,
+    self, snmpsec_datagram_user, snmpsec_gate_client, snmpsec_gate_context, snmpsec_gate_counters,
+    snmpsec_gate_counts, snmpsec_gate_due, snmpsec_gate_fault, snmpsec_gate_free, snmpsec_gate_may_notify,
     snmpsec_gate_message, snmpsec_gate_new, snmpsec_gate_next, snmpsec_gate_numbers,
     snmpsec_gate_read, snmpsec_gate_setting, snmpsec_gate_take_client, snmpsec_gate_take_device,
     Opaque,
@@ -40,6 +40,7 @@ enum Text {
     GateReceiverUser = 7,
     GateReceiverLevel = 8,
     GateReceiverKind = 9,
+    GateViewWithoutFamily = 10,
 }
 
 /// What becomes of a client's datagram that isn't refused.
@@ -374,6 +375,17 @@ impl Gate {
         copied(|out, len, written| unsafe { snmpsec_gate_client(self.at(), out, len, written) })
     }
 
+    /// The contextName in which the messages of this request ask, if it waits.
+    pub fn context(&self, request: u64) -> Result<Option<Vec<u8>>, Error> {
+        let said = copied(|out, len, written| unsafe {
+            snmpsec_gate_context(self.at(), request, out, len, written)
+        });
+        match said {
+            Err(Error::NothingTaken) => Ok(None),
+            other => other.map(Some),
+        }
+    }
+
     /// How many requests wait.
     pub fn waiting(&self) -> Result<u64, Error> {
         Ok(self.numbers()?.waiting)
@@ -446,6 +458,15 @@ impl Gate {
                 level: level.unwrap_or_default(),
                 kind: kind.unwrap_or_default(),
             });
+        }
+        Ok(found)
+    }
+
+    /// The read views that access rows name and no family row has, each once. Nobody sees anything by them.
+    pub fn views_without_family(&self) -> Result<Vec<Vec<u8>>, Error> {
+        let mut found = Vec::new();
+        while let Some(view) = self.setting(Text::GateViewWithoutFamily, found.len())? {
+            found.push(view);
         }
         Ok(found)
     }

@@ -99,6 +99,11 @@ fn a_request_goes_to_its_device_and_back() {
             panic!("a request begins");
         };
         assert_eq!(pdu, Pdu::GetRequest as u8);
+        assert_eq!(
+            both.gate.context(number).unwrap().as_deref(),
+            Some(b"pdu".as_slice())
+        );
+        assert_eq!(both.gate.context(number + 1), Ok(None));
         let joins = ClientTaken::Joins {
             request: number,
             pdu,
@@ -282,6 +287,14 @@ fn says_its_addresses_and_devices(gate: &Gate) {
         Some("access 0 gives a write view, and it has no write-community")
     );
     assert_eq!(devices[1].address, "[fe80::7%2]:161");
+    assert!(gate.views_without_family().unwrap().is_empty());
+}
+
+#[test]
+fn a_configuration_says_its_views_without_a_family() {
+    let text = GATE.replace("read = 'all'", "read = 'none'");
+    let gate = Gate::read(text.as_bytes()).unwrap();
+    assert_eq!(gate.views_without_family().unwrap(), [b"none"]);
 }
 
 #[test]

@@ -169,6 +169,13 @@ static void odd(void) {
     snmpsec_gate_free(gate);
 }
 
+/* `without_family TEXT`: the read views that no family row has. */
+static void without_family(void) {
+    snmpsec_gate *gate = gate_of(octets());
+    all_settings(gate, SNMPSEC_GATE_VIEW_WITHOUT_FAMILY, "");
+    snmpsec_gate_free(gate);
+}
+
 void gate_config_row(const char *kind) {
     if (!strcmp(kind, "read")) {
         read_text(true);
@@ -176,6 +183,10 @@ void gate_config_row(const char *kind) {
     }
     if (!strcmp(kind, "odd")) {
         odd();
+        return;
+    }
+    if (!strcmp(kind, "without_family")) {
+        without_family();
         return;
     }
     snmpsec_gate *gate = gate_of(octets_of(&read_last));

@@ -182,6 +182,7 @@ SIGNATURES = {
     "gate_due": (c_int, [c_void_p, POINTER(c_uint64)]),
     "gate_message": (c_int, [c_void_p] + _out),
     "gate_client": (c_int, [c_void_p] + _out),
+    "gate_context": (c_int, [c_void_p, c_uint64] + _out),
     "gate_numbers": (c_int, [c_void_p, POINTER(GateInfo)]),
     "gate_counters": (c_int, [c_void_p, POINTER(Counters)]),
     "gate_counts": (c_int, [c_void_p, POINTER(Counts)]),

@@ -112,6 +112,7 @@ class _Text(IntEnum):
     RECEIVER_USER = 7
     RECEIVER_LEVEL = 8
     RECEIVER_KIND = 9
+    VIEW_WITHOUT_FAMILY = 10
 
 
 def gate_fault(config: Buffer) -> Optional[str]:
@@ -171,6 +172,10 @@ class Gate(_Counting):
         """By which PDU the message asks that the last call took, where that was BEGINS or JOINS."""
         return Pdu(self._numbers().pdu)
 
+    def context(self) -> bytes:
+        """The contextName in which the message asks that the last call took, where that was BEGINS or JOINS."""
+        return _copied(self._call, "context", self._numbers().request)
+
     def take_device(self, now: int, device: int, datagram: Buffer) -> GateEvent:
         """Takes a datagram of the device at this position, from 0."""
         event = _library.Enumeration()
@@ -222,11 +227,14 @@ class Gate(_Counting):
         """The path of the boots file."""
         return (self._setting(_Text.BOOTS, 0) or b"").decode()
 
-    def _addresses(self, text: _Text) -> List[str]:
-        found: List[str] = []
-        while (address := self._setting(text, len(found))) is not None:
-            found.append(address.decode())
+    def _settings(self, text: _Text) -> List[bytes]:
+        found: List[bytes] = []
+        while (setting := self._setting(text, len(found))) is not None:
+            found.append(setting)
         return found
+
+    def _addresses(self, text: _Text) -> List[str]:
+        return [address.decode() for address in self._settings(text)]
 
     def listen(self) -> List[str]:
         """The addresses at which it takes requests, each with its port."""
@@ -249,6 +257,10 @@ class Gate(_Counting):
         answer = _library.Enumeration()
         _done(self._call("may_notify", _ranged(receiver, 64), _ranged(device, 64), *_arcs(name), ctypes.byref(answer)))
         return Access(answer.value)
+
+    def views_without_family(self) -> List[bytes]:
+        """The read views that access rows name and no family row has, each once. Nobody sees anything by them."""
+        return self._settings(_Text.VIEW_WITHOUT_FAMILY)
 
     def devices(self) -> List[GateDevice]:
         """The devices, at the positions by which the calls name them."""

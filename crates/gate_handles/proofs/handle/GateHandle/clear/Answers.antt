@@ -19,5 +19,6 @@ returns c =
       no_devices = c.new-devices.ensures.items;
       no_receivers = c.new.ensures.items;
       no_access = c.new-2.ensures.items;
+      no_views = c.new-3.ensures.items;
       quiet = record { message = refl; client = refl; note = refl };
     }

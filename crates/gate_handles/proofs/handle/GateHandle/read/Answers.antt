@@ -12,6 +12,7 @@ returns c =
       rows = tables_of said.rows.access;
       sound = c.in_ok-said.ensures.says;
       access = refl;
+      views = c.in_ok-views.ensures.views;
       agent = subst (λ (a : AgentState). IsAgentWithoutUsers said.gate.engine (tables_of said.rows.access) a) (sym made.agent_is) (rw c.copy.ensures at c.in_ok-agent.ensures.agent);
       gate = record {
         agent_is = refl;
