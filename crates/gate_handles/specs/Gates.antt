@@ -17,9 +17,10 @@ use Rattle.vacm_core.specs.declared.rows.AccessRow.{AccessRow}
 use Rattle.snmp_message.specs.declared.refusal.Refusal.TheVariants.{OutOfMemory}
 use Rattle.snmp_msg.specs.Pdu.{PduParts}
 use Rattle.snmp_agent.specs.Agent.{AgentState}
-use Rattle.snmp_gate.specs.Beginning.{IsUntaken}
+use Rattle.snmp_gate.specs.Beginning.{IsNoRefusal, IsUntaken}
 use Rattle.snmp_gate.specs.Bounds.{IsBounded}
 use Rattle.snmp_gate.specs.DeviceMessages.{IsDeviceAnswer}
+use Rattle.snmp_gate.specs.Counting.{CountsSent}
 use Rattle.snmp_gate.specs.Due.{IsFirstDue}
 use Rattle.snmp_gate.specs.Fits.{IsFitTold}
 use Rattle.snmp_gate.specs.Hidden.{IsHiddenTold}
@@ -229,7 +230,8 @@ TellsClient client.NoRoom told new = (told ≡ Ok event.NoRoom) × IsQuiet new
 TellsClient client.SetOfBefore told new = (told ≡ Ok event.SetOfBefore) × IsQuiet new
 
 -- The datagram is taken as the gateway promises. What happens by that is lawful; a refusal has its cause and its
--- report, and changes the agent alone; and a datagram that isn't taken has its cause, and leaves all as before.
+-- report, and changes the agent alone, which nothing else changes; and a datagram that isn't taken has its cause, and
+-- leaves all as before.
 pub record TookClient (old : GateHeld) (now : ℕ) (from datagram : List ℕ) (told : Result GateEvent CallFault)
     (new : GateHeld) : Type 0 where
   pub taken : ClientTaken
@@ -238,6 +240,7 @@ pub record TookClient (old : GateHeld) (now : ℕ) (from datagram : List ℕ) (t
   pub refused : IsRefusedBy old.gate (now / 1000) datagram new.gate taken
   pub untaken : IsUntaken taken → IsAsBefore now old.gate new.gate
   pub cause : HasCause old.gate now datagram taken
+  pub counted : IsNoRefusal taken → new.gate.agent ≡ old.gate.agent
 
 abbrev pub TakesClient : GateHeld → ℕ → List ℕ → List ℕ → Result GateEvent CallFault → GateHeld → Type 0
 TakesClient old now from datagram told new = KeepsSaid old new
@@ -251,7 +254,8 @@ TellsDevice (device.Answers number fault hidden) told new = (told ≡ Ok event.A
 TellsDevice device.NotWaitedFor told new = (told ≡ Ok event.NotWaitedFor) × IsQuiet new
 TellsDevice device.Unreadable told new = (told ≡ Ok event.Unreadable) × IsQuiet new
 
--- The datagram is taken as the gateway promises. It is unreadable only if it is no device's answer.
+-- The datagram is taken as the gateway promises. It is unreadable only if it is no device's answer, and the agent
+-- counts nothing.
 pub record TookDevice (old : GateHeld) (now number : ℕ) (datagram : List ℕ) (told : Result GateEvent CallFault)
     (new : GateHeld) : Type 0 where
   pub taken : DeviceTaken
@@ -261,6 +265,7 @@ pub record TookDevice (old : GateHeld) (now number : ℕ) (datagram : List ℕ) 
   pub takes : runs.TakesDevice old.gate now number datagram taken new.gate
   pub unreadable : taken ≡ device.Unreadable → (community : List ℕ) (p : PduParts)
       → ¬ IsDeviceAnswer datagram community p
+  pub counted : new.gate.agent ≡ old.gate.agent
 
 abbrev pub TakesDevice : GateHeld → ℕ → ℕ → List ℕ → Result GateEvent CallFault → GateHeld → Type 0
 TakesDevice old now number datagram told new = KeepsSaid old new
@@ -279,13 +284,14 @@ TellsSent (out.GivenUp number to) told new = (told ≡ Ok event.GivenUp) × (new
     × IsQuiet new
 TellsSent out.Nothing told new = (told ≡ Ok event.Nothing) × IsQuiet new
 
--- What goes out is what the gateway promises. There is nothing only if no request has ended, and nothing is due for any
--- by time alone.
+-- What goes out is what the gateway promises, and the agent counts it. There is nothing only if no request has ended,
+-- and nothing is due for any by time alone.
 pub record Sends (old : GateHeld) (now : ℕ) (f : Fresh) (told : Result GateEvent CallFault) (new : GateHeld)
     : Type 0 where
   pub sent : Sent
   pub tells : TellsSent sent told new
   pub sends : runs.SendsNext old.gate now f sent new.gate
+  pub counted : CountsSent old.gate.agent new.gate.agent sent
 
 abbrev pub SendsNext : GateHeld → ℕ → List ℕ → ℕ → Result GateEvent CallFault → GateHeld → Type 0
 SendsNext old now salt ask_id told new = KeepsSaid old new

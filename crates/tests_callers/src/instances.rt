@@ -1,7 +1,7 @@
 //! Histories that the laws must refuse, so that a definition which gets too wide is seen here. Each function does
 //! nothing: its contract is that no such history is lawful.
 
-ghost use Rattle.std.specs.Prelude.{◌≡◌, ◌≤◌, ℕ, List, [], ◌∷◌, Some};
+ghost use Rattle.std.specs.Prelude.{◌≡◌, ◌≢◌, ◌+◌, ◌*◌, ◌<◌, ◌≤◌, ℕ, ℤ, List, [], ◌∷◌, Some, length, max};
 ghost use Rattle.snmp_message.specs.Scoped.{Contexts};
 ghost use Rattle.snmp_incoming.specs.Outcome.{Given};
 ghost use Rattle.snmp_manager.specs.Views.{Held};
@@ -14,16 +14,19 @@ ghost use Rattle.snmp_requests.specs.declared.device_request.SentMessage.{SentMe
 ghost use Rattle.snmp_agent.specs.Agent.{AgentState};
 ghost use Rattle.snmp_msg.specs.Pdu.{PduParts};
 ghost use Rattle.snmp_msg.specs.PduTypes.{pdu_tag};
+ghost use Rattle.snmp_msg.specs.Variables.{Variable, variables_of};
 ghost use Rattle.snmp_msg.specs.declared.pdu_type.PduType.TheVariants.{SetRequest};
 ghost use Rattle.gateway_laws.specs.Requests.{RequestPdu};
 ghost use Rattle.snmp_gate.specs.History.{accepted, answered, asked, sent, unanswered};
 ghost use Rattle.snmp_gate.specs.Lawful.{AreLawful};
-ghost use Rattle.snmp_gate.specs.Limits.{AlwaysKeepsTo};
+ghost use Rattle.snmp_gate.specs.Limits.{AlwaysKeepsTo, MustBeShort, WaitInTime};
 ghost use Rattle.snmp_gate.specs.Messages.{question_in};
 ghost use Rattle.snmp_gate.specs.Question.{Question};
 ghost use Rattle.snmp_gate.specs.Replies.{Answering, ClientAnswer};
 ghost use Rattle.snmp_gate.specs.declared.devices.Device.{Device};
 ghost use Rattle.snmp_gate.specs.declared.limits.GateLimits.{GateLimits};
+ghost use Rattle.snmp_gate.specs.declared.reply.TheConstants.{SHORT_ANSWER};
+ghost use Rattle.snmp_gate.specs.declared.set_answer.TheConstants.{NO_ERROR};
 ghost use Rattle.snmp_gate.specs.declared.waiting_message.WaitingMessage.{WaitingMessage};
 ghost use Rattle.snmp_forward.specs.History as notifications;
 ghost use Rattle.snmp_forward.specs.InformHistory as informs;
@@ -85,7 +88,7 @@ pub fn no_set_is_done_by_itself()
     ensures { (agent : AgentState) (devices : List Device) (number now : ℕ) (index : ℤ) (datagram : List ℕ)
         (message : WaitingMessage) (by : Answering) (answer : ClientAnswer) (set : Question) (first : Variable)
         (others : List Variable)
-        → question_in message ≡ Some set → set.tag ≡ pdu_tag SetRequest → variables_of set.list ≡ first ∷ others
+        → set.tag ≡ pdu_tag SetRequest → question_in message ≡ Some set → variables_of set.list ≡ first ∷ others
         → answer.says ≡ Some (record { status = NO_ERROR; index = index })
         → ¬ AreLawful agent devices (sent number message by answer ∷ accepted number now datagram message ∷ []) }
 {}
