@@ -7,7 +7,7 @@ import asyncio
 
 from snmpsec import Error, Level
 from snmpsec.aio import Client, SnmpError, Target
-from snmpsec.values import ObjectId, encode
+from snmpsec.values import BadValue, ObjectId, encode
 
 
 async def main() -> None:
@@ -20,7 +20,7 @@ async def main() -> None:
     async with Client.from_file(asked.config) as client:
         for found in await asyncio.gather(*(client.get(target, name) for name in asked.name)):
             for name, value in found:
-                tag, content = encode(value)
+                tag, content = value if isinstance(value, BadValue) else encode(value)
                 print(name, f"{tag:02x}", content.hex())
 
 

@@ -13,7 +13,7 @@
 
 One client asks many devices over one socket, and each of them for many things at once. An engine that isn't known is discovered first, and its boots
 and time are learned (RFC 3414, section 4). A request that has no answer is sent again, with the same msgID and request-id. What a device doesn't do is
-an SnmpError: NoAnswer, ReportReceived, ErrorStatus or NotIncreasing.
+an SnmpError: NoAnswer, ReportReceived, ErrorStatus, OtherVariables, NotIncreasing or WalkLimit.
 """
 from __future__ import annotations
 
@@ -29,20 +29,49 @@ from . import (NO_CLOCKS, Answered, Buffer, Device, Info, Known, Level, Manager,
                wiped)
 from .files import Path, read_clocks, save_clocks
 from .notifications import Listener, Notification, TrapSender, Variables, listed, notified, variables_of
-from .targets import TOO_BIG, ErrorStatus, NoAnswer, NotIncreasing, ReportReceived, SnmpError, Target, configuration
-from .values import END_OF_MIB_VIEW, Name, ObjectId, Value, Variable, encode
+from .targets import (TOO_BIG, ErrorStatus, NoAnswer, NotIncreasing, OtherVariables, ReportReceived, SnmpError, Target,
+                      WalkLimit, configuration)
+from .values import END_OF_MIB_VIEW, Exceptional, Name, ObjectId, Value, Variable, encode
 
-__all__ = ["Client", "ErrorStatus", "Listener", "NoAnswer", "NotIncreasing", "Notification", "ReportReceived", "SnmpError", "Target", "TrapSender",
-           "configuration"]
+__all__ = ["Client", "ErrorStatus", "Listener", "NoAnswer", "NotIncreasing", "Notification", "OtherVariables",
+           "ReportReceived", "SnmpError", "Target", "TrapSender", "WalkLimit", "configuration"]
 
 _UNKNOWN_ENGINES, _MOST_REPETITIONS = 4, 100
 _LARGEST, _RECEIVED, _AT_A_TIME = 65507, 4 << 20, 64
 
 
 @lru_cache(1 << 14)
-def _asked(name: Name) -> bytes:
-    """The binding that asks for a variable."""
-    return binding(ObjectId(name), 5)
+def _asked(name: Name) -> Tuple[ObjectId, bytes]:
+    """A variable's name, and the binding that asks for it."""
+    own = ObjectId(name)
+    return own, binding(own, 5)
+
+
+def _misfit(pdu: Pdu, names: Sequence[ObjectId], found: Sequence[Variable], numbers: Tuple[int, int]) -> Optional[str]:
+    """What a Response without an error has instead of what was asked (RFC 3416, sections 4.2.1 to 4.2.5)."""
+    if pdu is Pdu.GET_BULK:
+        single = min(numbers[0], len(names))
+        most = single + (len(names) - single) * numbers[1]
+        return f"{len(found)} variables instead of at most {most}" if len(found) > most else None
+    if len(found) != len(names):
+        return f"{len(found)} variables instead of {len(names)}"
+    for asked, (name, value) in zip(names, found):
+        if pdu is not Pdu.GET_NEXT and name != asked:
+            return f"{name} instead of {asked}"
+        if value is END_OF_MIB_VIEW and pdu is Pdu.GET or isinstance(value, Exceptional) and pdu is Pdu.SET:
+            return f"an exception for {name} that no such answer has"
+    return None
+
+
+def _see_increase(names: Sequence[ObjectId], found: Sequence[Variable], non_repeaters: int) -> None:
+    """NotIncreasing: a name isn't greater than the one before it, of its column (RFC 3416, sections 4.2.2 and 4.2.3)."""
+    before = list(names)
+    single, columns = min(non_repeaters, len(names)), len(names) - min(non_repeaters, len(names))
+    for n, (name, value) in enumerate(found):
+        at = n if n < single else single + (n - single) % columns
+        if name < before[at] or name == before[at] and value is not END_OF_MIB_VIEW:
+            raise NotIncreasing(name, before[at])
+        before[at] = name
 
 
 class _Peer:
@@ -70,19 +99,20 @@ class _Response(NamedTuple):
 
 
 class _Waiting:
-    """A request on its way: whom it asks, what it waits for, its Response, and what is to be done once it is heard of,
-    or None if nothing came in time."""
+    """A request on its way: whom it asks, what it waits for, its Response, what is to be done since something was heard
+    of it, and what ends with that or with the time."""
 
-    __slots__ = ("peer", "state", "response", "future")
+    __slots__ = ("peer", "state", "response", "step", "future")
 
     def __init__(self, peer: _Peer, state: Device):
         self.peer, self.state = peer, state
         self.response: Optional[_Response] = None
-        self.future: Optional[asyncio.Future[Optional[Step]]] = None
+        self.step: Optional[Step] = None
+        self.future: Optional[asyncio.Future[None]] = None
 
-    def heard(self, step: Optional[Step]) -> None:
+    def wake(self) -> None:
         if self.future is not None and not self.future.done():
-            self.future.set_result(step)
+            self.future.set_result(None)
 
 
 class Client:
@@ -156,11 +186,15 @@ class Client:
 
     async def get_next(self, target: Target, *names: Name) -> List[Variable]:
         """For each name the next variable after it (RFC 3416, section 4.2.2)."""
-        return await self._ask_names(target, Pdu.GET_NEXT, names)
+        found = await self._ask_names(target, Pdu.GET_NEXT, names)
+        _see_increase([ObjectId(name) for name in names], found, len(names))
+        return found
 
     async def get_bulk(self, target: Target, *names: Name, non_repeaters: int = 0, max_repetitions: int = 10) -> List[Variable]:
         """The next variables after each name, repetition by repetition (RFC 3416, section 4.2.3)."""
-        return await self._ask_names(target, Pdu.GET_BULK, names, (non_repeaters, max_repetitions))
+        found = await self._ask_names(target, Pdu.GET_BULK, names, (non_repeaters, max_repetitions))
+        _see_increase([ObjectId(name) for name in names], found, non_repeaters)
+        return found
 
     async def set(self, target: Target, variables: Variables) -> List[Variable]:
         """Sets variables, all or none (RFC 3416, section 4.2.5), and returns what the Response has. After NoAnswer it may have been done."""
@@ -170,14 +204,16 @@ class Client:
         """Sends an InformRequest, and waits until it is acknowledged (RFC 3416, section 4.2.7): the notification's name, and what it is about."""
         await self._ask_variables(target, Pdu.INFORM, notified(notification, variables, uptime))
 
-    async def walk(self, target: Target, root: Name, *, max_repetitions: int = _MOST_REPETITIONS) -> AsyncIterator[Variable]:
+    async def walk(self, target: Target, root: Name, *, max_repetitions: int = _MOST_REPETITIONS,
+                   limit: Optional[int] = None) -> AsyncIterator[Variable]:
         """The variables below a name, in their order. It asks by GetBulkRequests, first for few variables and then for more, up to `max_repetitions`;
-        where an answer is too big, or doesn't come, for fewer. NotIncreasing: the device goes back."""
+        where an answer is too big, or doesn't come, for fewer. NotIncreasing: the device goes back. WalkLimit: it has
+        more variables than the limit, perhaps without end."""
         begin = last = ObjectId(root)
-        size = min(10, max_repetitions)
+        size, count = min(10, max_repetitions), 0
         while True:
             try:
-                found = await self.get_bulk(target, last, max_repetitions=size)
+                found = await self._ask_names(target, Pdu.GET_BULK, [last], (0, size))
             except (ErrorStatus, NoAnswer) as fault:
                 if size == 1 or isinstance(fault, ErrorStatus) and fault.status != TOO_BIG:
                     raise
@@ -188,7 +224,9 @@ class Client:
                     return
                 if name <= last:
                     raise NotIncreasing(name, last)
-                last = name
+                if count == limit:
+                    raise WalkLimit(target, count)
+                last, count = name, count + 1
                 yield Variable(name, value)
             if not found:
                 raise NotIncreasing(last, last)
@@ -197,21 +235,26 @@ class Client:
     # -- what goes out
 
     async def _ask_names(self, target: Target, pdu: Pdu, names: Sequence[Name], numbers: Tuple[int, int] = (0, 0)) -> List[Variable]:
-        octets = b"".join(_asked(name if isinstance(name, str) else tuple(name)) for name in names)
-        return await self._ask(target, pdu, names, octets, numbers)
+        asked = [_asked(name if isinstance(name, str) else tuple(name)) for name in names]
+        return await self._ask(target, pdu, [own for own, _ in asked], b"".join(it for _, it in asked), numbers)
 
     async def _ask_variables(self, target: Target, pdu: Pdu, variables: Sequence[Tuple[ObjectId, Value]]) -> List[Variable]:
         octets = b"".join(binding(name, *encode(value)) for name, value in variables)
         return await self._ask(target, pdu, [name for name, _ in variables], octets, (0, 0))
 
-    async def _ask(self, target: Target, pdu: Pdu, names: Sequence[Name], octets: bytes, numbers: Tuple[int, int]) -> List[Variable]:
+    async def _ask(self, target: Target, pdu: Pdu, names: Sequence[ObjectId], octets: bytes,
+                   numbers: Tuple[int, int]) -> List[Variable]:
         async with self._room:
             peer = self._peers.get((target.host, target.port)) or await self._peer(target)
             response = await self._answer(target, peer, pdu, octets, numbers)
         if response.error_status:
             at = response.error_index
-            raise ErrorStatus(response.error_status, at, ObjectId(names[at - 1]) if 0 < at <= len(names) else None)
-        return variables_of(response.octets)
+            raise ErrorStatus(response.error_status, at, names[at - 1] if 0 < at <= len(names) else None)
+        found = variables_of(response.octets)
+        why = None if pdu is Pdu.INFORM else _misfit(pdu, names, found, numbers)
+        if why is not None:
+            raise OtherVariables(target, why)
+        return found
 
     async def _answer(self, target: Target, peer: _Peer, pdu: Pdu, octets: bytes, numbers: Tuple[int, int]) -> _Response:
         """Sends what is to be sent until the request is answered."""
@@ -273,18 +316,18 @@ class Client:
         """Sends the manager's message until something is to be done."""
         loop, peer, message = asyncio.get_running_loop(), waiting.peer, manager.message()
         assert message is not None
-        self._waiting[manager, token] = waiting
+        self._waiting[manager, token], waiting.step = waiting, None
         try:
             for _ in range(1 + self.retries):
                 waiting.future = loop.create_future()
-                timer = loop.call_later(self.timeout, waiting.heard, None)
+                timer = loop.call_later(self.timeout, waiting.wake)
                 self._send(peer, message)
                 try:
-                    step = await waiting.future
+                    await waiting.future
                 finally:
                     timer.cancel()
-                if step is not None:
-                    return step
+                if waiting.step is not None:  # (it may have been heard of just as its time ended)
+                    return waiting.step
             if waiting.state.counter == _UNKNOWN_ENGINES:
                 peer.engine, peer.holds_clock = None, False  # the next request discovers it
             raise NoAnswer(target, waiting.state.counter, peer.refusal, peer.engine is not None)
@@ -352,12 +395,19 @@ class Client:
         return True
 
     def _hear(self, manager: Manager, info: Info, answered: Answered, waiting: _Waiting) -> None:
-        """A message answers what was sent last of a request."""
+        """A message answers what was sent last of a request. What came first counts."""
+        if waiting.step is not None:
+            return
         peer = waiting.peer
         if answered.is_response:
             waiting.response = _Response(info.error_status, info.error_index, manager.part(Part.BINDINGS) or b"")
         elif answered.report_of == _UNKNOWN_ENGINES and peer.engine is None:
-            peer.engine = manager.part(Part.ENGINE)
+            engine = manager.part(Part.ENGINE) or b""
+            if not engine.strip(engine[:1]) and engine[:1] in (b"\0", b"\xff"):  # (RFC 3411, section 5)
+                peer.refusal = Refusal.UNKNOWN_ENGINE
+                return
+            peer.engine = engine
         step = waiting.state.hear(answered, self._known(peer) is Known.CLOCK)
         if step is not Step.WAIT:
-            waiting.heard(step)
+            waiting.step = step
+            waiting.wake()

@@ -205,12 +205,13 @@ def walk() -> int:
     """snmpsec-walk: the variables below a name."""
     parser = _asking("walk", "Print the variables below a name, by GetBulkRequests.")
     parser.add_argument("name", metavar="NAME", nargs="?", default="1.3.6.1.2.1", help="where to begin (1.3.6.1.2.1)")
+    parser.add_argument("--limit", metavar="COUNT", type=int, help="end with status 1 after so many variables, if there are more")
 
     async def work(given: argparse.Namespace) -> int:
         root = name_of(given.name)
 
         async def through(client: Client, target: Target) -> bool:
-            found = [_print([it], given.json) async for it in client.walk(target, root)]
+            found = [_print([it], given.json) async for it in client.walk(target, root, limit=given.limit)]
             return all(found) if found else _print(await client.get(target, root), given.json)
 
         return await _with_client(given, through)

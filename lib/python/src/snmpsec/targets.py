@@ -6,7 +6,8 @@ from typing import NamedTuple, Optional
 from . import Buffer, Level, Refusal
 from .values import ObjectId
 
-__all__ = ["ERROR_STATUS", "ErrorStatus", "NoAnswer", "NotIncreasing", "REPORTS", "ReportReceived", "SnmpError", "TOO_BIG", "Target", "configuration"]
+__all__ = ["ERROR_STATUS", "ErrorStatus", "NoAnswer", "NotIncreasing", "OtherVariables", "REPORTS", "ReportReceived",
+           "SnmpError", "TOO_BIG", "Target", "WalkLimit", "configuration"]
 
 TOO_BIG = 1
 
@@ -64,6 +65,22 @@ class NotIncreasing(SnmpError):
     def __init__(self, name: ObjectId, before: ObjectId):
         super().__init__(f"the device answers with {name} after {before}: its names don't increase")
         self.name, self.before = name, before
+
+
+class OtherVariables(SnmpError):
+    """The Response doesn't have the variables that were asked, or has what no such Response has."""
+
+    def __init__(self, target: Target, why: str):
+        super().__init__(f"{target} answers with {why}")
+        self.target = target
+
+
+class WalkLimit(SnmpError):
+    """A walk has more variables than its limit."""
+
+    def __init__(self, target: Target, limit: int):
+        super().__init__(f"{target} has more than {limit} variables there")
+        self.target, self.limit = target, limit
 
 
 def _likely(report: Optional[int], refusal: Optional[Refusal], is_known: bool) -> str:

@@ -197,10 +197,13 @@ def encode(value: Value) -> Tuple[int, bytes]:
 
 
 def _arcs_of(content: bytes) -> ObjectId:
-    arcs, arc = [], 0
+    """ValueError: an arc begins with the octet 80, which says nothing (X.690, section 8.19.2), or is too great."""
+    arcs, arc, begins = [], 0, True
     for octet in content:
-        arc = arc << 7 | octet & 127
-        if octet < 128:
+        if begins and octet == 128:
+            raise ValueError
+        arc, begins = arc << 7 | octet & 127, octet < 128
+        if begins:
             arcs.append(arc)
             arc = 0
     first = min(arcs[0] // 40, 2)
