@@ -78,8 +78,8 @@ SPOTS = (
 FILES = ("one.conf", "two.conf", "folder/three.conf", "folder/four.conf", "folder/.five.conf", "folder/six.txt")
 INCLUDES = (
     *(b"includeFile one.conf", b"includefile two.conf", b"includeFile folder/three.conf", b"includeFile four.conf"),
-    *(b"includeDir folder", b"iNCLUDEDIR folder/", b"includeDir no/such", b"includeFile no.conf", b"includeFile folder"),
-    *(b"includeSearch one.conf", b"include one.conf", b"includeFile", b"IncludeFile one.conf"),
+    *(b"includeDir folder", b"iNCLUDEDIR folder/", b"includeDir no/such", b"includeFile no.conf"),
+    *(b"includeFile folder", b"includeSearch one.conf", b"include one.conf", b"includeFile", b"IncludeFile one.conf"),
     *(b"includeFile one.conf ", b"includeFile \xff", b"[snmp] includeFile two.conf"),
 )
 GIVEN = (

@@ -9,7 +9,7 @@ import errno
 import os
 from typing import List, NamedTuple, Optional, Tuple
 
-from .choices import differences
+from .choices import NoAnswer, differences
 from .included import Sources, Unread, read_named
 from .items import Item, is_known, meant
 from .notes import Notes, Told, line_notes
@@ -104,7 +104,7 @@ def _ask(config: bytes, variable: str) -> bytes:
     except OSError as fault:
         raise _unrun(words[0], fault) from None
     if done.returncode not in (0, 1):
-        raise Complaint(os.fsencode(words[0]) + b" didn't say which access rows RFC 3415 chooses")
+        raise NoAnswer
     return done.stdout
 
 
@@ -180,6 +180,9 @@ def run(given: List[bytes]) -> int:
         printed = _answer(given)
     except Complaint as complaint:
         printed = Printed(b"", complaint.text, 2)
+    except NoAnswer:
+        told = Complaint(os.fsencode(_asked()) + b" didn't say which access rows RFC 3415 chooses")
+        printed = Printed(b"", told.text, 2)
     except MemoryError:
         printed = Printed(b"", b"snmpsec: out of memory\n", 2)
     except Exception as fault:  # no traceback: it would show what the files have
