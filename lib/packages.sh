@@ -12,13 +12,11 @@ repository=$(cd "$here/.." && pwd)
 [ -n "$1" ] || { sed -n '2,3p' "$0"; exit 2; }
 mkdir -p "$1"
 out=$(cd "$1" && pwd)
-[ -n "$NO_LIBRARY" ] || (cd "$repository" && tools/build snmp_c snmpsec snmpsec_import snmpsec_diagnose)
+[ -n "$NO_LIBRARY" ] || (cd "$repository" && tools/build snmp_c snmpsec snmpsec_diagnose)
 export SNMPSEC_ARCHIVE=$repository/crates/snmp_c/out/libsnmp_c.a \
     SNMPSEC_PROGRAM=${SNMPSEC_PROGRAM:-$repository/crates/snmpsec/out/snmpsec}
-export SNMPSEC_IMPORT_PROGRAM=${SNMPSEC_IMPORT_PROGRAM:-$repository/crates/snmpsec_import/out/snmpsec_import}
 export SNMPSEC_DIAGNOSE_PROGRAM=${SNMPSEC_DIAGNOSE_PROGRAM:-$repository/crates/snmpsec_diagnose/out/snmpsec_diagnose}
-(cd "$repository" && tools/check-proved "$SNMPSEC_ARCHIVE" "$SNMPSEC_PROGRAM" "$SNMPSEC_IMPORT_PROGRAM" \
-    "$SNMPSEC_DIAGNOSE_PROGRAM")
+(cd "$repository" && tools/check-proved "$SNMPSEC_ARCHIVE" "$SNMPSEC_PROGRAM" "$SNMPSEC_DIAGNOSE_PROGRAM")
 # for the bills of materials
 export SNMPSEC_CRATES=$repository/crates.txt SNMPSEC_KIT
 SNMPSEC_KIT=$(rt version 2> /dev/null || echo NOASSERTION)
@@ -49,7 +47,7 @@ libc=${libc#GLIBC_}
 parts=$out/wheel
 rm -rf "$parts"
 mkdir -p "$parts/snmpsec"
-cp "$tree"/lib/python/src/snmpsec/* "$parts/snmpsec"
+cp -r "$tree"/lib/python/src/snmpsec/* "$parts/snmpsec"
 cp "$shared" "$parts/snmpsec/libsnmpsec.so.0"
 python3 "$here/sbom.py" snmpsec-wheel "$version" "$parts" "$out/snmpsec.spdx.json" snmp_c
 cd "$tree/lib/python"

@@ -81,10 +81,9 @@ test_install() {
         echo "skipped: the installed library: there is no cmake or no pkg-config (apt-get install cmake make pkg-config)"
         return
     fi
-    local import=$here/../crates/snmpsec_import/out/snmpsec_import
     local diagnose=$here/../crates/snmpsec_diagnose/out/snmpsec_diagnose
-    [ -x "$program" ] && [ -x "$import" ] && [ -x "$diagnose" ] && words=(-DSNMPSEC_PROGRAM="$program" \
-        -DSNMPSEC_IMPORT_PROGRAM="$import" -DSNMPSEC_DIAGNOSE_PROGRAM="$diagnose")
+    [ -x "$program" ] && [ -x "$diagnose" ] && words=(-DSNMPSEC_PROGRAM="$program" \
+        -DSNMPSEC_DIAGNOSE_PROGRAM="$diagnose")
     cmake -S "$here" -B "$build" -DSNMPSEC_ARCHIVE="$archive" "${words[@]}" -DCMAKE_BUILD_TYPE=Release \
         > "$work/cmake.log" 2>&1 && cmake --build "$build" >> "$work/cmake.log" 2>&1
     check "CMake builds" 0 $?
@@ -101,8 +100,12 @@ test_install() {
     use_by_cmake "$prefix"
     if [ ${#words[@]} != 0 ]; then
         check "the installed program" "$("$program" version)" "$("$prefix/bin/snmpsec" version)"
-        has "the installed import-snmpd" "snmpsec import-snmpd" \
+        has "the installed import-snmpd's help" "snmpsec import-snmpd" \
             "$("$prefix/bin/snmpsec" --why import-snmpd --help 2>&1)"
+        printf 'access g %s prefix %s none none\n' '"" usm auth' v 'b any auth' w > "$work/snmpd.conf"
+        echo 'group g usm ann' >> "$work/snmpd.conf"
+        has "the installed import-snmpd asks the program" "snmpd takes this row, RFC 3415 that of -:1" \
+            "$("$prefix/bin/snmpsec" import-snmpd - < "$work/snmpd.conf" 2>&1)"
         has "the installed diagnose" "snmpsec diagnose" "$("$prefix/bin/snmpsec" --why diagnose --help 2>&1)"
     fi
     check "the installed agent" "$("$OUT/agent" --version)" \

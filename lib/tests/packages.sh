@@ -276,7 +276,7 @@ test_packages() {
         echo "skipped: the Debian packages and the wheel: there is no $(paste -sd' ' <<< "$missing")"
         return
     fi
-    for crate in snmpsec snmpsec_import snmpsec_diagnose; do
+    for crate in snmpsec snmpsec_diagnose; do
         if [ ! -x "$here/../crates/$crate/out/$crate" ]; then
             echo "skipped: the Debian packages: $crate isn't built, which ./prove does"
             return

@@ -68,7 +68,7 @@ test_notifications() {
 test_python() {
     if ! command -v python3 > /dev/null; then echo "skipped: python3 isn't installed"; return; fi
     local tests
-    for tests in snmpsec gate forward aio hostile hostile_agent listener files; do
+    for tests in import_snmpd snmpsec gate forward aio hostile hostile_agent listener files; do
         PYTHONPATH=$here/python/src python3 "$here/python/tests/test_$tests.py" > "$work/python.out" 2>&1
         check "Python: $tests" 0 $?
         grep -E '^(FAIL|ERROR|[A-Za-z.]*Error)' "$work/python.out"

@@ -9,7 +9,6 @@ use Rattle.clap.specs.declared.parser.matches.ArgMatches.{ArgMatches}
 use Rattle.snmpsec_cli.specs.declared.access.AccessWords.{AccessWords}
 use Rattle.snmpsec_cli.specs.declared.capture.DatagramsWords.{DatagramsWords}
 use Rattle.snmpsec_cli.specs.declared.diagnose.DiagnoseWords.{DiagnoseWords}
-use Rattle.snmpsec_cli.specs.declared.import.ImportWords.{ImportWords}
 use Rattle.snmpsec_cli.specs.declared.replay.ReplayWords.{ReplayWords}
 
 -- the word of this name, if it was given: the first one if there are more
@@ -58,13 +57,6 @@ pub record AreDiagnoseWords (words : ArgMatches) (w : DiagnoseWords) : Type 0 wh
   pub engines : map (λ s. s.now) w.engines.now ≡ all_given words (codes "ENGINE")
   pub agents : map (λ s. s.now) w.agents.now ≡ all_given words (codes "AGENT")
   pub source : AreDatagramsWords words w.source
-
--- the words of import-snmpd
-pub record AreImportWords (words : ArgMatches) (w : ImportWords) : Type 0 where
-  pub contexts : map (λ s. s.now) w.contexts.now ≡ all_given words (codes "NAME")
-  pub no_include : IsFlag words (codes "no-include") w.no_include
-  pub strict : IsFlag words (codes "strict") w.strict
-  pub files : map (λ s. s.now) w.files.now ≡ all_given words (codes "FILE")
 
 -- the words of replay
 pub record AreReplayWords (words : ArgMatches) (w : ReplayWords) : Type 0 where

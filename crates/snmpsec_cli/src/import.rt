@@ -1,11 +1,7 @@
 //! The command line of `import-snmpd`.
 
-ghost use Rattle.snmpsec_cli.specs.Words.{AreImportWords};
-
 use crate::Command;
 use crate::forms::{Form, Kind, Word};
-use crate::given_words::words_of;
-use clap::ArgMatches;
 
 /// The command import-snmpd.
 pub(crate) static IMPORT_SNMPD: Form = Form {
@@ -49,28 +45,3 @@ Exit status:
         ),
     ],
 };
-
-/// The words of import-snmpd.
-#[derive(Clone, Copy)]
-pub struct ImportWords<'a> {
-    /// The names of contexts beside the one without a name.
-    pub contexts: &'a [&'a str],
-    /// Whether files that other files name are left alone.
-    pub no_include: bool,
-    /// Whether notes are a reason for status 1.
-    pub strict: bool,
-    /// The names of the files.
-    pub files: &'a [&'a str],
-}
-
-/// The words of import-snmpd.
-pub fn import_words<'m>(words: &'m ArgMatches<'_>) -> ImportWords<'m>
-    ensures { AreImportWords words.now result }
-{
-    ImportWords {
-        contexts: words_of(words, "NAME"),
-        no_include: words.get_flag("no-include"),
-        strict: words.get_flag("strict"),
-        files: words_of(words, "FILE"),
-    }
-}

@@ -146,6 +146,5 @@ pub use access::{AccessWords, access_words};
 pub use capture::{DatagramsWords, datagrams_words};
 pub use diagnose::{DiagnoseWords, diagnose_words};
 pub use given_words::{word_of, words_of};
-pub use import::{ImportWords, import_words};
 pub use invocation::{Invocation, asked_by};
 pub use replay::{ReplayWords, replay_words};

@@ -17,7 +17,7 @@ use std::alloc::{AllocError, Global};
 use std::io::{Input, Write};
 use std::rt::Files;
 
-const IN_IMPORT: &str = "import-snmpd is in the program snmpsec-import";
+const IN_IMPORT: &str = "import-snmpd is in Python; the script snmpsec runs it";
 
 const IN_DIAGNOSE: &str = "diagnose is in the program snmpsec-diagnose";
 

@@ -2,7 +2,6 @@
 
 use capture_dumps::dump_line;
 use capture_files::{Lines, packets_log};
-use snmpd_lines::{Hash, Subtree, go_on, hash_of, subtree_of, take_token, take_word};
 use snmpsec_output::merge_text;
 use std::alloc::Global;
 use std::test::Fail;
@@ -38,31 +37,4 @@ fn the_line_of_a_dump_is_counted(rt: HostRuntime) {
     assert!(rt; dump_line(b"0000000 30 03 02 01 03\n0000005\n") == Some(1));
     assert!(rt; dump_line(third) == Some(3));
     assert!(rt; dump_line(b"0010  30\n0000\t30\n0000 30\n") == Some(2));
-}
-
-#[test]
-fn the_two_longest_hashes_are_told_apart(rt: HostRuntime) {
-    assert!(rt; hash_of(b"SHA3") == Some(Hash::Sha384) && hash_of(b"SHA5") == Some(Hash::Sha512));
-}
-
-#[test]
-fn a_word_may_have_no_octet(rt: HostRuntime) -> Result<(), Fail> {
-    let word = take_word(rt.alloc(), b"abc g", 0)?;
-    assert!(rt; word.octets.is_empty() && word.rest == Some(b"g".as_slice()));
-    let word = take_word(rt.alloc(), b"", 5)?;
-    assert!(rt; word.octets.is_empty() && word.rest.is_none());
-    Ok(())
-}
-
-#[test]
-fn a_line_feed_is_a_gap(rt: HostRuntime) {
-    let parts = (b"g".as_slice(), b"\t x".as_slice());
-    assert!(rt; take_token(b"g\n\t x") == Some(parts) && take_token(b" \t\n").is_none());
-    assert!(rt; go_on(b" \t\x0b\x0c\r\nx ") == Some(b"x ".as_slice()));
-}
-
-#[test]
-fn no_subtree_has_a_blank(rt: HostRuntime) {
-    let blank = subtree_of(b"1 ");
-    assert!(rt; subtree_of(b"") == Subtree::NotInNumbers && blank == Subtree::NotInNumbers);
 }

@@ -1,9 +1,0 @@
-pub mod Words
-pub mod Lines
-pub mod Directives
-pub mod Values
-pub mod Subtrees
-pub mod Masks
-pub mod Types
-pub mod Protocols
-pub mod Users
