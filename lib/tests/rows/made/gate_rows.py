@@ -63,8 +63,8 @@ class Odd:
         print(f"{words} -> {answer}")
         return answer
 
-    def request(self, tag, names, second=0, third=0, context=b"odd"):
-        """Sends a request, and asks the device."""
+    def make(self, tag, names, second=0, third=0, context=b"odd"):
+        """Makes a request."""
         self.number += 1
         octets = spelled([(name, (2, b"\x05") if tag == SET else (5, b"")) for name in names])
         pdu, numbers = (tag, self.number, second, third, octets), (self.number, 65507, 4, 1, 0)
@@ -72,12 +72,20 @@ class Odd:
             USER, 0, ENGINE, numbers, plain.scoped_of(ENGINE, context, plain.pdu_of(*pdu)), b""
         )
         self.message = plain.Message("c", USER, 0, ENGINE, context, pdu, (self.number, 65507, 1, 0), datagram)
+
+    def request(self, tag, names, second=0, third=0, context=b"odd"):
+        """Sends a request, and asks the device."""
+        self.make(tag, names, second, third, context)
         self.take()
+
+    def come(self):
+        """Sends the last request, or sends it again."""
+        words = f"take_client {self.now} 'c {self.message.datagram.hex()}"
+        self.row(words, self.gate.take_client(self.now, self.message))
 
     def take(self):
         """Sends the last request, or sends it again, and asks the device."""
-        words = f"take_client {self.now} 'c {self.message.datagram.hex()}"
-        self.row(words, self.gate.take_client(self.now, self.message))
+        self.come()
         self.send()
 
     def send(self):
@@ -334,6 +342,16 @@ def a_set_without_room(it):
     it.take()
 
 
+def a_new_set_beside_one_of_before(it):
+    it.request(SET, [ONE])
+    it.answer()
+    it.come()
+    it.make(SET, [ONE])
+    it.come()
+    it.send()
+    it.answer()
+
+
 WAYS = (
     silent,
     late,
@@ -368,6 +386,7 @@ WAYS = (
     names_too_many,
     asks_too_long,
     a_set_without_room,
+    a_new_set_beside_one_of_before,
 )
 
 print(HEAD)
