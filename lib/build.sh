@@ -1,16 +1,35 @@
 #!/bin/sh
 # Proves and builds the library, where it isn't built from these sources, and what stands in this folder, into lib/out:
-# build.sh [CFLAGS..]
+# build.sh [--unproved] [CFLAGS..]
 #
-# OUT is another folder than lib/out, CC another compiler than cc. With NO_LIBRARY the archive is taken as it lies
-# there. With OVER_CI it is built over the libraries that rt ci has left. The sources are those that CMakeLists.txt
-# lists. CMakeLists.txt builds what is installed; this wants a C compiler alone.
+# With --unproved the archive is compiled without a proof (tools/unproved), and all is built into lib/out/unproved. A
+# line on standard error says so. No package and no installation takes what is built so.
+#
+# OUT is another folder than these, CC another compiler than cc, and SNMPSEC_ARCHIVE another archive. With NO_LIBRARY
+# the archive is taken as it lies there. With OVER_CI it is built over the libraries that rt ci has left. The sources
+# are those that CMakeLists.txt lists. CMakeLists.txt builds what is installed; this wants a C compiler alone.
 set -e
 here=$(cd "$(dirname "$0")" && pwd)
-out=${OUT:-$here/out}
-archive=${SNMPSEC_ARCHIVE:-$here/../crates/snmp_c/out/libsnmp_c.a}
+make="tools/build ${OVER_CI:+--over-ci}" below=
+for word do
+    shift
+    case $word in
+        --unproved) make="tools/unproved --keep" below=/unproved ;;
+        --*)
+            echo "build.sh: there is no option $word; usage: build.sh [--unproved] [CFLAGS..]" >&2
+            exit 2 ;;
+        *) set -- "$@" "$word" ;;
+    esac
+done
+archive=${SNMPSEC_ARCHIVE:-$here/../crates/snmp_c/out$below/libsnmp_c.a}
+[ -n "$NO_LIBRARY" ] || (cd "$here/.." && $make snmp_c)
+# (whatever the words are: tools/unproved leaves this name in each archive that it makes)
+if grep -qs unproved_build "$archive"; then
+    below=/unproved
+    echo "build.sh: nothing of this build is proved; ./prove snmp_c proves it" >&2
+fi
+out=${OUT:-$here/out$below}
 mkdir -p "$out"
-[ -n "$NO_LIBRARY" ] || (cd "$here/.." && tools/build ${OVER_CI:+--over-ci} snmp_c)
 cc="${CC:-cc} -std=c11 -O2 -Wall -Wextra -Werror -I$here/include"
 bound="-Wl,-z,relro,-z,now"
 

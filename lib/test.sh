@@ -10,12 +10,15 @@
 # is printed when it has ended. Parts that are named run one after another, over what was built before.
 #
 # With NO_LIBRARY the archive is taken as it lies there. SNMPSEC_ARCHIVE is another archive, and SNMPSEC_PROGRAM another
-# program, as tools/unproved compiles them; nothing is installed or packaged of an archive that isn't proved.
+# program, as tools/unproved compiles them; nothing is installed or packaged of an archive that isn't proved, and it is
+# built over in lib/out/unproved.
 here=$(cd "$(dirname "$0")" && pwd)
-export OUT=${OUT:-$here/out}
+archive=${SNMPSEC_ARCHIVE:-$here/../crates/snmp_c/out/libsnmp_c.a}
+is_proved=yes below=
+if grep -qs unproved_build "$archive"; then is_proved=no below=/unproved; fi
+export OUT=${OUT:-$here/out$below}
 work=$(mktemp -d)
 replay=$here/../examples/replay
-archive=${SNMPSEC_ARCHIVE:-$here/../crates/snmp_c/out/libsnmp_c.a}
 program=${SNMPSEC_PROGRAM:-$here/../crates/snmpsec/out/snmpsec}
 port=${1:-16161}
 trap_port=$((port + 1)) snmpd_port=$((port + 2))
@@ -113,7 +116,7 @@ ours() {
 }
 
 # Those of a line need what those before them have started or defined.
-groups="calls agent budget dispatch made_tables
+groups="calls agent budget dispatch made_tables unproved
 gate gate_lines gate_files gate_busy
 gate_traps gate_informs gate_clients
 gate_memory memory secrets processors packages
@@ -154,8 +157,6 @@ side_by_side() {
 
 # The programs with the address and undefined behaviour sanitizers, which end at what they find.
 sanitized=$OUT/sanitized
-is_proved=yes
-grep -q unproved_build "$archive" 2> /dev/null && is_proved=no
 if [ $# -lt 2 ]; then
     if [ $is_proved = no ]; then echo "these are over an archive that isn't proved"; fi
     build || exit 1

@@ -83,8 +83,8 @@ def write_program(folder, to):
 
 def show_exports(text, crate, mark):
     """The module's text, in LLVM's language, in which a linker sees the crate's exports and the mark, and no `main`.
-    """
+    The mark's value is its name too, which stays in a library whose symbols are stripped."""
     own = rf'@"{crate}::\w+::({PREFIX}\w+)"'
     text = re.sub(rf"^define internal ([^@\n]*{own}\()", r"define \1", text, flags=re.MULTILINE)
     text = re.sub(r"^define (\w+) @main\(", r"define internal \1 @main(", text, flags=re.MULTILINE)
-    return re.sub(own, r"@\1", text) + f"\n@{mark} = constant i8 0\n"
+    return re.sub(own, r"@\1", text) + f'\n@{mark} = constant [{len(mark)} x i8] c"{mark}"\n'
