@@ -15,6 +15,10 @@ module _ (users : List User) (limit : ℕ) (vs : List Variable) (after of : List
     longest = λ small. subst (IsBeyond users (room limit)) (is (take (count + 1) vs)) (h.longest small);
   }
 
+  pub same_count : (o : Option ℕ) → IfSome o (IsLongestFront users (room limit) after vs) → IfSome o (IsLongestFront users (room limit) of vs)
+  same_count None h = h
+  same_count (Some count) h = same_longest count h
+
   same_answer : (answer : Result FrontText Refusal) → SealsFront users limit after vs answer → SealsFront users limit of vs answer
   same_answer (Ok f) h = (subst (λ (m : Sending). Seals users m (Ok f.text)) (is (take f.count vs)) h.0, h.1, same_longest f.count h.2)
   same_answer (Err n) (inl rows) = inl (subst (λ (m : Sending). Seals users m (Err n)) (is []) rows)

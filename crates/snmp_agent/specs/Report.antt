@@ -4,9 +4,9 @@
 -- reportable flag is set, and the PDU, where it isn't sealed and can be read, is of the Confirmed Class.
 -- The report is then the `SealedText` of `reporting`: the agent's engine, boots and time, the msgID, the
 -- user and (where it can be read) the request-id of the message, and the counter after it was counted; at
--- authNoPriv for counter 2, else at noAuthNoPriv.
+-- authNoPriv for counter 2, else at noAuthNoPriv. `IsShortReport`: each sender can take it.
 use Rattle.snmp_message.specs.declared.refusal.Refusal.{Refusal}
-use Rattle.std.specs.Prelude.{◌≡◌, ◌⊎◌, ℕ, ℤ, pos, true, List, Option, Some, None, Err, option_map}
+use Rattle.std.specs.Prelude.{◌≡◌, ◌⊎◌, ◌≤◌, ℕ, ℤ, pos, true, IfSome, List, Option, Some, None, Err, length, option_map}
 use Rattle.std.specs.Global.{Vec}
 use Rattle.snmp_message.specs.Layout.{Parts}
 use Rattle.snmp_message.specs.Scoped.{Contexts, HasScoped}
@@ -70,6 +70,14 @@ abbrev pub AgentReports : AgentState → ℕ → List ℕ → Option Refusal →
 AgentReports agent now w None report = report ≡ None
 AgentReports agent now w (Some refusal) report = IsReport agent.users agent.engine
     (own_pair agent.boots agent.started now) agent.counters w refusal report
+
+-- the least that a sender may say it can take, in octets (RFC 3412, section 6.3)
+abbrev pub least_max_size : ℕ
+least_max_size = 484
+
+-- the report, if there is one, has no more octets
+abbrev pub IsShortReport : Option (Vec ℕ) → Type 0
+IsShortReport report = IfSome report (λ v. length v.items ≤ least_max_size)
 
 abbrev pub report_of : Option (Vec ℕ) → Option (List ℕ)
 report_of report = option_map (λ v. v.items) report

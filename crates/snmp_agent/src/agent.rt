@@ -4,7 +4,7 @@ ghost use Rattle.std.specs.Prelude.{◌≡◌, ◌≤◌, ◌<◌, ◌⊎◌, re
 ghost use Rattle.engine_clock.specs.Pairs.{pair_max};
 ghost use Rattle.snmp_agent.specs.RefusalCounters.{counter_at};
 ghost use Rattle.snmp_agent.specs.Agent.{taker_of, taken_answer, AgentTakes, IsOpened};
-ghost use Rattle.snmp_agent.specs.Report.{AgentReports, OffersOnAnswer, report_of};
+ghost use Rattle.snmp_agent.specs.Report.{AgentReports, IsShortReport, OffersOnAnswer, report_of};
 ghost use Rattle.snmp_message.specs.declared.refusal.Refusal.TheVariants.{OutOfMemory};
 ghost use Rattle.snmp_message.specs.Refusals.{IsRefused};
 ghost use Rattle.snmp_message.specs.Numbers.{in_table};
@@ -17,12 +17,10 @@ use crate::judge::judge;
 use crate::refusal_counters::count_refusal;
 use crate::refused::Refused;
 use crate::report::report;
-use crate::response::{Response, write_response};
-use crate::response_laws::response_is_accepted;
 use engine_clock::EngineId;
 use snmp_ber::{Level, Oid};
 use snmp_incoming::Taken;
-use snmp_msg::{Binding, Refusal, RefusedAt, Spelled, USER_BASED, one_content, one_pdu};
+use snmp_msg::{Refusal, RefusedAt, USER_BASED, one_content, one_pdu};
 use snmp_outgoing::supports;
 use std::alloc::{AllocError, Global};
 use std::marker::Model;
@@ -61,21 +59,16 @@ impl Model for Agent {
 }
 
 impl Agent {
-    ghost use Rattle.std.specs.Prelude.{◌≢◌, All, map, IfOk, IsOk, IfSome};
+    ghost use Rattle.std.specs.Prelude.{◌≢◌, IfOk, IsOk};
     ghost use Rattle.snmp_message.specs.Scoped.{Contexts, ScopedFront};
     ghost use Rattle.snmp_msg.specs.PduTypes.{pdu_tag};
     ghost use Rattle.snmp_msg.specs.declared.pdu_type.PduType.TheVariants.{GetRequest, SetRequest};
     ghost use Rattle.snmp_msg.specs.Pdu.{PduParts, PduText};
-    ghost use Rattle.snmp_msg.specs.Variables.{CanBeWritten, variable_of};
     ghost use Rattle.vacm_core.specs.Allowed.{Allowed};
     ghost use Rattle.snmp_incoming.specs.Texts.{text_of};
     ghost use Rattle.snmp_incoming.specs.Answers.{given_of};
-    ghost use Rattle.usm_core.specs.Answers.{seal_answer};
     ghost use Rattle.snmp_agent.specs.Decides.{NextSeen, question, question_of, IsDecision};
-    ghost use Rattle.snmp_incoming.specs.Outcome.{own_pair};
-    ghost use Rattle.snmp_agent.specs.Responses.{response, responding};
-    ghost use Rattle.snmp_agent.specs.Sent.{Sends, CanBeSent, CanSendAt, RefusesSenderAt};
-    ghost use Rattle.snmp_agent.specs.Sent.{IsAcceptedByManagers};
+    ghost use Rattle.snmp_agent.specs.Sent.{CanSendAt, RefusesSenderAt};
 
     /// An agent that started at the moment `started`, with these boots, at most 2147483647. Its counters are
     /// 0. This takes no memory.
@@ -135,7 +128,7 @@ impl Agent {
     /// Takes a datagram at the moment `now`: reads and authenticates it (RFC 3412, section 7.2, and RFC 3414,
     /// section 3.2), looks at the time window, opens the message and reads its ScopedPDU. A refusal that has
     /// a counter adds one to it, and where that is one of usmStats it is reported where the message asks for
-    /// reports.
+    /// reports, by a datagram of at most 484 octets.
     ///
     /// The errors are, the first that applies: ClockExhausted (15), where the engine's time would be above
     /// 2147483647; those of `Users::open_auth`; NotInWindow (10), DecryptionError (11), BadScoped (12) and
@@ -147,6 +140,7 @@ impl Agent {
         ensures report { IfErr result
             (λ r. AgentReports self.new now datagram.now (in_table r.why.refusal)
             (report_of r.report)) }
+        ensures short { IfErr result (λ r. IsShortReport r.report) }
         ensures no_memory { (IsOpened (taker_of self.old) self.old.users now datagram.now → ⊥)
             → (OffersOnAnswer (taker_of self.old) self.old.users now datagram.now → ⊥)
             → IsSome (taken_answer result) }
@@ -273,99 +267,5 @@ impl Agent {
             return Err(RefusedAt::plain(Refusal::ClockExhausted));
         }
         supports(&self.users, user, level)
-    }
-
-    /// The Response to an accepted request, at its level: its msgID, user, contexts and request-id, with this
-    /// error-status, this error-index and these bindings, under the agent's engine, boots and time. Nothing
-    /// of the agent changes. The salt is used at authPriv alone.
-    ///
-    /// The errors are ClockExhausted (15), then at levels with authentication UnknownUser (7) and
-    /// UnsupportedLevel (8), and then TooLarge (16), only where the text would be longer than 65,507 octets,
-    /// or OutOfMemory (14), whichever is met first. Where it is TooLarge, a tooBig is sent by calling this
-    /// again with status 1 and no bindings.
-    pub fn respond(
-        &mut self,
-        now: u64,
-        taken: &Taken<'_>,
-        status: i32,
-        index: i32,
-        bindings: &[Binding<'_>],
-        salt: [u8; 8],
-    ) -> Result<Vec<u8>, RefusedAt>
-        requires { All (λ b. CanBeWritten (variable_of b)) bindings.now }
-        ensures answer { (c : Contexts) (p : PduParts)
-            → ScopedFront (text_of taken.now.text) c → PduText c.pdu p
-            → IfSome (seal_answer result)
-            (Sends self.old now (λ own. responding self.old.engine own
-            (given_of taken.now) c p status index
-            (map variable_of bindings.now) salt)) }
-
-        // The refusals before the text come before OutOfMemory.
-        ensures memory { (c : Contexts) (p : PduParts)
-            → ScopedFront (text_of taken.now.text) c → PduText c.pdu p
-            → IsRefused result OutOfMemory
-            → CanBeSent self.old now
-            (λ own. responding self.old.engine own (given_of taken.now) c p status index
-            (map variable_of bindings.now) salt) }
-        ensures accepted { (c : Contexts) (p : PduParts)
-            → ScopedFront (text_of taken.now.text) c → PduText c.pdu p
-            → IfOk result (λ text. IsAcceptedByManagers self.old.users
-            (response self.old.engine (own_pair self.old.boots self.old.started now)
-            (given_of taken.now) c p status index (map variable_of bindings.now) salt) text.items) }
-        ensures same { self.new ≡ self.old }
-    {
-        self.respond_of(now, taken, status, index, bindings, salt)
-    }
-
-    /// The same Response, of bindings in any form that can be written: `VariableBinding` is the quick one,
-    /// with its name's octets, of which only the tags are asked.
-    ///
-    /// The errors are those of `respond`, in its order.
-    pub fn respond_of<B: Spelled>(
-        &mut self,
-        now: u64,
-        taken: &Taken<'_>,
-        status: i32,
-        index: i32,
-        bindings: &[B],
-        salt: [u8; 8],
-    ) -> Result<Vec<u8>, RefusedAt>
-        requires { All (λ b. B.fits b) bindings.now }
-        ensures answer { (c : Contexts) (p : PduParts)
-            → ScopedFront (text_of taken.now.text) c → PduText c.pdu p
-            → IfSome (seal_answer result)
-            (Sends self.old now (λ own. responding self.old.engine own
-            (given_of taken.now) c p status index
-            (map B.says bindings.now) salt)) }
-        ensures memory { (c : Contexts) (p : PduParts)
-            → ScopedFront (text_of taken.now.text) c → PduText c.pdu p
-            → IsRefused result OutOfMemory
-            → CanBeSent self.old now
-            (λ own. responding self.old.engine own (given_of taken.now) c p status index
-            (map B.says bindings.now) salt) }
-        ensures accepted { (c : Contexts) (p : PduParts)
-            → ScopedFront (text_of taken.now.text) c → PduText c.pdu p
-            → IfOk result (λ text. IsAcceptedByManagers self.old.users
-            (response self.old.engine (own_pair self.old.boots self.old.started now)
-            (given_of taken.now) c p status index (map B.says bindings.now) salt) text.items) }
-        ensures same { self.new ≡ self.old }
-    {
-        response_is_accepted();
-        let Some(own) = self.engine.pair(now) else {
-            return Err(RefusedAt::plain(Refusal::ClockExhausted));
-        };
-        let response = Response {
-            status,
-            index,
-            salt,
-        };
-        write_response(
-            &mut self.users,
-            &self.engine.id,
-            own,
-            taken,
-            &response,
-            bindings,
-        )
     }
 }

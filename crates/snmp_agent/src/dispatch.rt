@@ -1,19 +1,12 @@
 //! What an agent does with the messages that it accepts (RFC 3412, sections 4.2.2 and 7.1; RFC 3413, section
-//! 3.2), and Responses within a limit.
+//! 3.2).
 
-ghost use Rattle.std.specs.Prelude.{◌≡◌, [], All, map, take, IfOk, IfSome, OnErr, Some};
+ghost use Rattle.std.specs.Prelude.{◌≡◌, IfSome, OnErr, Some};
 ghost use Rattle.snmp_message.specs.Scoped.{Contexts, ScopedFront, contexts_of};
 ghost use Rattle.snmp_msg.specs.Pdu.{PduParts, PduText, pdu_of};
-ghost use Rattle.snmp_msg.specs.Variables.{CanBeWritten, variable_of};
 ghost use Rattle.snmp_incoming.specs.Texts.{text_of};
 ghost use Rattle.snmp_incoming.specs.Answers.{given_of};
-ghost use Rattle.snmp_incoming.specs.Outcome.{own_pair};
-ghost use Rattle.usm_core.specs.Answers.{seal_answer};
-ghost use Rattle.snmp_outgoing.specs.UpTo.{UpTo};
-ghost use Rattle.snmp_outgoing.specs.Fronts.{IsBeyond, front_answer, room};
 ghost use Rattle.snmp_agent.specs.Counts.{count_at, one_more};
-ghost use Rattle.snmp_agent.specs.Responses.{response, responding};
-ghost use Rattle.snmp_agent.specs.Sent.{Sends, SendsFront, CanBeSent, IsAcceptedByManagers};
 ghost use Rattle.snmp_agent.specs.Dispatch.{HandledBy, Refuses, RefusalCanBeSent, refusing_answer};
 ghost use Rattle.snmp_outgoing.specs.declared.counter.Counter.TheVariants.{SilentDrops};
 ghost use Rattle.snmp_message.specs.declared.refusal.Refusal.TheVariants.{OutOfMemory};
@@ -23,14 +16,10 @@ use crate::agent::Agent;
 use crate::commands::{is_command, is_response};
 use crate::counter::one_more;
 use crate::refusal::{Counted, write_refusal_report};
-use crate::response::{Response, write_response_front, write_response_within};
-use crate::response_laws::response_is_accepted;
 use crate::unhandled::Unhandled;
 use snmp_incoming::Taken;
-use snmp_msg::{
-    Binding, Pdu, Refusal, RefusedAt, Scoped, Spelled, is_confirmed, one_content, one_pdu,
-};
-use snmp_outgoing::{Counter, Fronted};
+use snmp_msg::{Pdu, Refusal, RefusedAt, Scoped, is_confirmed, one_content, one_pdu};
+use snmp_outgoing::Counter;
 
 impl Agent {
     /// How many messages this counter has counted.
@@ -155,175 +144,5 @@ impl Agent {
             }
             Err(fault) => Err(fault),
         }
-    }
-
-    /// What `respond` gives where that has at most `limit` octets, as the sender's msgMaxSize
-    /// (`Taken::max_size`) or a local constraint, and else TooLarge (16). The length is counted before any key is
-    /// looked for, so what is too large costs no sealing and takes no memory.
-    ///
-    /// The errors are those of `respond`, in its order. Where it is TooLarge, a tooBig is sent by calling
-    /// this again with status 1 and no bindings (RFC 3416, section 4.2.1); a limit of 484 octets is enough
-    /// for it, wherever contextEngineID and contextName have at most 32 octets.
-    pub fn respond_within(
-        &mut self,
-        now: u64,
-        taken: &Taken<'_>,
-        status: i32,
-        index: i32,
-        bindings: &[Binding<'_>],
-        salt: [u8; 8],
-        limit: usize,
-    ) -> Result<Vec<u8>, RefusedAt>
-        requires { All (λ b. CanBeWritten (variable_of b)) bindings.now }
-        ensures answer { (c : Contexts) (p : PduParts)
-            → ScopedFront (text_of taken.now.text) c → PduText c.pdu p
-            → IfSome (seal_answer result)
-            (UpTo limit (Sends self.old now
-            (λ own. responding self.old.engine own (given_of taken.now) c p status index
-            (map variable_of bindings.now) salt))) }
-
-        // The refusals before the text come before OutOfMemory.
-        ensures memory { (c : Contexts) (p : PduParts)
-            → ScopedFront (text_of taken.now.text) c → PduText c.pdu p
-            → IsRefused result OutOfMemory
-            → CanBeSent self.old now
-            (λ own. responding self.old.engine own (given_of taken.now) c p status index
-            (map variable_of bindings.now) salt) }
-
-        // What is too long is refused before memory is asked for.
-        ensures counted { (c : Contexts) (p : PduParts)
-            → ScopedFront (text_of taken.now.text) c → PduText c.pdu p
-            → IsRefused result OutOfMemory
-            → IsBeyond self.old.users (room limit)
-            (responding self.old.engine (own_pair self.old.boots self.old.started now)
-            (given_of taken.now) c p
-            status index (map variable_of bindings.now) salt) → ⊥ }
-        ensures accepted { (c : Contexts) (p : PduParts)
-            → ScopedFront (text_of taken.now.text) c → PduText c.pdu p
-            → IfOk result (λ text. IsAcceptedByManagers self.old.users
-            (response self.old.engine (own_pair self.old.boots self.old.started now)
-            (given_of taken.now) c p status index (map variable_of bindings.now) salt) text.items) }
-        ensures same { self.new ≡ self.old }
-    {
-        self.respond_within_of(now, taken, status, index, bindings, salt, limit)
-    }
-
-    /// The same Response, of bindings in any form that can be written, as `respond_of` has them.
-    ///
-    /// The errors are those of `respond_within`, in its order.
-    pub fn respond_within_of<B: Spelled>(
-        &mut self,
-        now: u64,
-        taken: &Taken<'_>,
-        status: i32,
-        index: i32,
-        bindings: &[B],
-        salt: [u8; 8],
-        limit: usize,
-    ) -> Result<Vec<u8>, RefusedAt>
-        requires { All (λ b. B.fits b) bindings.now }
-        ensures answer { (c : Contexts) (p : PduParts)
-            → ScopedFront (text_of taken.now.text) c → PduText c.pdu p
-            → IfSome (seal_answer result)
-            (UpTo limit (Sends self.old now
-            (λ own. responding self.old.engine own (given_of taken.now) c p status index
-            (map B.says bindings.now) salt))) }
-        ensures memory { (c : Contexts) (p : PduParts)
-            → ScopedFront (text_of taken.now.text) c → PduText c.pdu p
-            → IsRefused result OutOfMemory
-            → CanBeSent self.old now
-            (λ own. responding self.old.engine own (given_of taken.now) c p status index
-            (map B.says bindings.now) salt) }
-
-        // What is too long is refused before memory is asked for.
-        ensures counted { (c : Contexts) (p : PduParts)
-            → ScopedFront (text_of taken.now.text) c → PduText c.pdu p
-            → IsRefused result OutOfMemory
-            → IsBeyond self.old.users (room limit)
-            (responding self.old.engine (own_pair self.old.boots self.old.started now)
-            (given_of taken.now) c p
-            status index (map B.says bindings.now) salt) → ⊥ }
-        ensures accepted { (c : Contexts) (p : PduParts)
-            → ScopedFront (text_of taken.now.text) c → PduText c.pdu p
-            → IfOk result (λ text. IsAcceptedByManagers self.old.users
-            (response self.old.engine (own_pair self.old.boots self.old.started now)
-            (given_of taken.now) c p status index (map B.says bindings.now) salt) text.items) }
-        ensures same { self.new ≡ self.old }
-    {
-        response_is_accepted();
-        let Some(own) = self.engine.pair(now) else {
-            return Err(RefusedAt::plain(Refusal::ClockExhausted));
-        };
-        let response = Response {
-            status,
-            index,
-            salt,
-        };
-        write_response_within(
-            &mut self.users,
-            &self.engine.id,
-            own,
-            taken,
-            &response,
-            bindings,
-            limit,
-        )
-    }
-
-    /// The Response with the longest front of the bindings whose text has at most `limit` octets, as a
-    /// GetBulk's is cut (RFC 3416, section 4.2.3), and how many bindings that has. One text is sealed, and of
-    /// the others only the length is counted.
-    ///
-    /// The errors are those of `respond` before its text; then TooLarge (16), exactly where even the Response
-    /// without bindings has more octets than `limit`, or than 65,507; and OutOfMemory (14), which the
-    /// refusals before the text come before.
-    pub fn respond_front<B: Spelled>(
-        &mut self,
-        now: u64,
-        taken: &Taken<'_>,
-        status: i32,
-        index: i32,
-        bindings: &[B],
-        salt: [u8; 8],
-        limit: usize,
-    ) -> Result<Fronted, RefusedAt>
-        requires { All (λ b. B.fits b) bindings.now }
-        ensures answer { (c : Contexts) (p : PduParts)
-            → ScopedFront (text_of taken.now.text) c → PduText c.pdu p
-            → IfSome (front_answer result)
-            (SendsFront self.old now limit
-            (λ own vs. responding self.old.engine own (given_of taken.now) c p status index vs salt)
-            (map B.says bindings.now)) }
-        ensures memory { (c : Contexts) (p : PduParts)
-            → ScopedFront (text_of taken.now.text) c → PduText c.pdu p
-            → IsRefused result OutOfMemory
-            → CanBeSent self.old now
-            (λ own. responding self.old.engine own (given_of taken.now) c p status index [] salt) }
-        ensures accepted { (c : Contexts) (p : PduParts)
-            → ScopedFront (text_of taken.now.text) c → PduText c.pdu p
-            → IfOk result (λ f. IsAcceptedByManagers self.old.users
-            (response self.old.engine (own_pair self.old.boots self.old.started now)
-            (given_of taken.now) c p status index (take f.count (map B.says bindings.now)) salt)
-            f.text.items) }
-        ensures same { self.new ≡ self.old }
-    {
-        response_is_accepted();
-        let Some(own) = self.engine.pair(now) else {
-            return Err(RefusedAt::plain(Refusal::ClockExhausted));
-        };
-        let response = Response {
-            status,
-            index,
-            salt,
-        };
-        write_response_front(
-            &mut self.users,
-            &self.engine.id,
-            own,
-            taken,
-            &response,
-            bindings,
-            limit,
-        )
     }
 }

@@ -76,6 +76,7 @@ mod refused;
 mod report;
 mod reportable;
 mod reported_message;
+mod respond;
 mod response;
 mod response_laws;
 mod status;
@@ -87,9 +88,10 @@ pub use decision::Decision;
 pub use laws::{agents_decide_alike, notification_is_accepted};
 pub use refusal::{Counted, write_refusal_report};
 pub use refused::Refused;
-pub use response::{Response, write_response, write_response_front, write_response_within};
+pub use response::Response;
 pub use response_laws::{
-    refusal_is_short, report_is_accepted, report_is_short, response_is_accepted, too_big_is_short,
+    no_text_is_longer, refusal_is_short, report_is_accepted, report_is_short, response_is_accepted,
+    too_big_is_short,
 };
 pub use status::{Status, status_of};
 pub use unhandled::Unhandled;

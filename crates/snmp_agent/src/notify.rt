@@ -59,7 +59,8 @@ impl Agent {
         self.notify_of(now, id, user, level, &body.front(), body.bindings, salt)
     }
 
-    /// The same notification, with this front and bindings in any form that can be written, as `respond_of` has them.
+    /// The same notification, with this front and bindings in any form that can be written, as
+    /// `write_response` has them.
     ///
     /// The errors are those of `respond`, in its order.
     pub fn notify_of<B: Spelled>(

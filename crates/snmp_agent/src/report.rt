@@ -1,7 +1,8 @@
 //! Reports (RFC 3414, section 3.2).
 
-ghost use Rattle.std.specs.Prelude.{◌≡◌, Some, None, IfOk, IsErr, OnErr, IfSome};
+ghost use Rattle.std.specs.Prelude.{◌≡◌, ◌≤◌, Some, None, IfOk, IsErr, OnErr, IfSome, length};
 ghost use Rattle.snmp_ber.specs.declared.level.Level.TheVariants.{AuthNoPriv};
+ghost use Rattle.engine_clock.specs.Pairs.{IsPair};
 ghost use Rattle.usm_users.specs.Users.{HasUserAt};
 ghost use Rattle.usm_core.specs.Layouts.{IsLayoutOf};
 ghost use Rattle.usm_core.specs.Sealed.{SealedText};
@@ -10,13 +11,14 @@ ghost use Rattle.usm_core.specs.Table.{refusal_answer};
 ghost use Rattle.snmp_agent.specs.RefusalCounters.{counter_of};
 ghost use Rattle.snmp_agent.specs.Agent.{taker_at};
 ghost use Rattle.snmp_agent.specs.CounterReports.{report_level};
-ghost use Rattle.snmp_agent.specs.Report.{Offers, IsReport, reporting_of, report_of};
+ghost use Rattle.snmp_agent.specs.Report.{IsReport, IsShortReport, Offers, least_max_size, report_of, reporting_of};
 
 use crate::counter_report::write_counter_report;
 use crate::engine::Engine;
 use crate::refusal_counters::counter_of;
 use crate::reportable::asking;
 use crate::reported_message::ReportedMessage;
+use crate::response_laws::report_is_short;
 use engine_clock::{EngineId, Pair};
 use snmp_ber::{Level, Oid};
 use snmp_msg::{Refusal, RefusedAt, one_cut, one_message};
@@ -46,6 +48,7 @@ pub(crate) fn report(
         (λ r. IsReport users.old.users engine.now.id
         (own_pair engine.now.boots engine.now.started now) counters.now datagram.now why
         (report_of r)) }
+    ensures short { IfOk result IsShortReport }
     ensures memory { OnErr result (Offers datagram.now why) }
 {
     one_message();
@@ -90,11 +93,14 @@ fn write_report(
     asking: &ReportedMessage<'_>,
 ) -> Result<Vec<u8>, AllocError>
     requires known { n ≡ 2 → HasUserAt users.old.users asking.now.user.now AuthNoPriv }
+    requires pair { IsPair own }
     ensures users { users.new.users ≡ users.old.users }
     ensures text { IfOk result
         (λ text. SealedText users.old.users
         (reporting_of engine.now own n asking.now value) text.items) }
+    ensures short { IfOk result (λ text. length text.items ≤ least_max_size) }
 {
+    report_is_short();
     let Some(name) = Oid::of(&counter_name(n)) else {
         unreachable!();
     };

@@ -1,6 +1,6 @@
 //! Responses.
 
-ghost use Rattle.std.specs.Prelude.{◌≡◌, List, [], All, map, take, IfOk, IfSome, Ok};
+ghost use Rattle.std.specs.Prelude.{◌≡◌, List, [], All, map, take, IfNone, IfOk, IfSome, Ok};
 ghost use Rattle.engine_clock.specs.Engines.{IsEngine};
 ghost use Rattle.engine_clock.specs.Pairs.{IsPair};
 ghost use Rattle.snmp_message.specs.Scoped.{Contexts, ScopedFront, scoped_text};
@@ -13,7 +13,7 @@ ghost use Rattle.snmp_incoming.specs.Answers.{given_of};
 ghost use Rattle.snmp_outgoing.specs.Bodies.{pdu_after, scoped_after};
 ghost use Rattle.snmp_outgoing.specs.Sends.{sent_with};
 ghost use Rattle.usm_core.specs.Answers.{seal_answer};
-ghost use Rattle.snmp_outgoing.specs.Fronts.{IsBeyond, SealsFront, front_answer, room};
+ghost use Rattle.snmp_outgoing.specs.Fronts.{IsBeyond, IsLongestFront, SealsFront, front_answer, room};
 ghost use Rattle.snmp_outgoing.specs.Speaks.{SpeechFits};
 ghost use Rattle.snmp_outgoing.specs.UpTo.{UpTo};
 ghost use Rattle.snmp_agent.specs.Responses.{response as speech, responding};
@@ -22,11 +22,11 @@ ghost use Rattle.snmp_message.specs.Refusals.{IsRefused};
 
 use engine_clock::{EngineId, Pair};
 use snmp_incoming::Taken;
-use snmp_msg::{PduType, RefusedAt, Spelled, one_content, one_pdu};
-use snmp_outgoing::{Envelope, Front, Fronted, write_body_of, write_front, write_within};
+use snmp_msg::{LARGEST, PduType, RefusedAt, Spelled, one_content, one_pdu};
+use snmp_outgoing::{Envelope, Front, Fronted, count_within, write_front, write_within};
 use usm_core::Users;
 
-/// What a Response says besides what it copies and its bindings.
+/// What a Response says besides what it copies and its bindings, and how long it may be.
 #[derive(Clone, Copy)]
 pub struct Response {
     /// error-status.
@@ -35,6 +35,8 @@ pub struct Response {
     pub index: i32,
     /// msgPrivacyParameters at authPriv; the other levels send none.
     pub salt: [u8; 8],
+    /// How many octets its datagram has at most. No datagram has more than 65,507.
+    pub limit: usize,
 }
 
 /// The envelope of the Response to what was taken.
@@ -98,61 +100,23 @@ fn front<'a>(taken: &'a Taken<'_>, response: &Response) -> Front<'a>
 }
 
 /// The Response to what was taken, with these bindings, from this engine with its own boots and time, each at
-/// most 2147483647.
-///
-/// The errors are those of `write_body_of`, in its order.
-pub fn write_response<B: Spelled>(
-    users: &mut Users,
-    engine: &EngineId,
-    own: Pair,
-    taken: &Taken<'_>,
-    response: &Response,
-    bindings: &[B],
-) -> Result<Vec<u8>, RefusedAt>
-    requires bindings { All (λ b. B.fits b) bindings.now }
-    requires pair { IsPair own }
-    ensures rows { (c : Contexts) (p : PduParts)
-        → ScopedFront (text_of taken.now.text) c → PduText c.pdu p
-        → IfSome (seal_answer result)
-        (Seals users.old.users
-        (responding engine.now own (given_of taken.now) c p response.now.status response.now.index
-        (map B.says bindings.now) response.now.salt)) }
-    ensures memory { (c : Contexts) (p : PduParts)
-        → ScopedFront (text_of taken.now.text) c → PduText c.pdu p
-        → IsRefused result OutOfMemory
-        → IsSealable users.old.users
-        (responding engine.now own (given_of taken.now) c p response.now.status response.now.index
-        (map B.says bindings.now) response.now.salt) }
-    ensures fits { (c : Contexts) (p : PduParts)
-        → ScopedFront (text_of taken.now.text) c → PduText c.pdu p
-        → IfOk result (λ _. SpeechFits
-        (speech engine.now own (given_of taken.now) c p response.now.status response.now.index
-        (map B.says bindings.now) response.now.salt)) }
-    ensures users { users.new.users ≡ users.old.users }
-{
-    let envelope = envelope(engine, own, taken, response);
-    let front = front(taken, response);
-    write_body_of(users, &envelope, &front, bindings)
-}
-
-/// The same Response, where it has at most `limit` octets. Its length is counted before any key is looked for.
+/// most 2147483647. Its length is counted before any key is looked for.
 ///
 /// The errors are those of `write_within`, in its order.
-pub fn write_response_within<B: Spelled>(
+pub(crate) fn response_within<B: Spelled>(
     users: &mut Users,
     engine: &EngineId,
     own: Pair,
     taken: &Taken<'_>,
     response: &Response,
     bindings: &[B],
-    limit: usize,
 ) -> Result<Vec<u8>, RefusedAt>
     requires bindings { All (λ b. B.fits b) bindings.now }
     requires pair { IsPair own }
     ensures rows { (c : Contexts) (p : PduParts)
         → ScopedFront (text_of taken.now.text) c → PduText c.pdu p
         → IfSome (seal_answer result)
-        (UpTo limit (Seals users.old.users
+        (UpTo response.now.limit (Seals users.old.users
         (responding engine.now own (given_of taken.now) c p response.now.status response.now.index
         (map B.says bindings.now) response.now.salt))) }
     ensures sealed { (c : Contexts) (p : PduParts)
@@ -169,7 +133,7 @@ pub fn write_response_within<B: Spelled>(
     ensures counted { (c : Contexts) (p : PduParts)
         → ScopedFront (text_of taken.now.text) c → PduText c.pdu p
         → IsRefused result OutOfMemory
-        → IsBeyond users.old.users (room limit)
+        → IsBeyond users.old.users (room response.now.limit)
         (responding engine.now own (given_of taken.now) c p response.now.status response.now.index
         (map B.says bindings.now) response.now.salt) → ⊥ }
     ensures fits { (c : Contexts) (p : PduParts)
@@ -181,28 +145,27 @@ pub fn write_response_within<B: Spelled>(
 {
     let envelope = envelope(engine, own, taken, response);
     let front = front(taken, response);
-    write_within(users, &envelope, &front, bindings, limit)
+    write_within(users, &envelope, &front, bindings, response.limit)
 }
 
-/// The Response to what was taken, with the longest front of these bindings whose text has at most `limit`
-/// octets, and how many bindings that has.
+/// The Response to what was taken, with the longest front of these bindings that has room within the limit,
+/// and how many bindings that has.
 ///
 /// The errors are those of `write_front`, in its order.
-pub fn write_response_front<B: Spelled>(
+pub(crate) fn response_front<B: Spelled>(
     users: &mut Users,
     engine: &EngineId,
     own: Pair,
     taken: &Taken<'_>,
     response: &Response,
     bindings: &[B],
-    limit: usize,
 ) -> Result<Fronted, RefusedAt>
     requires bindings { All (λ b. B.fits b) bindings.now }
     requires pair { IsPair own }
     ensures rows { (c : Contexts) (p : PduParts)
         → ScopedFront (text_of taken.now.text) c → PduText c.pdu p
         → IfSome (front_answer result)
-        (SealsFront users.old.users limit
+        (SealsFront users.old.users response.now.limit
         (λ vs. responding engine.now own
         (given_of taken.now) c p response.now.status response.now.index vs response.now.salt)
         (map B.says bindings.now)) }
@@ -221,5 +184,38 @@ pub fn write_response_front<B: Spelled>(
 {
     let envelope = envelope(engine, own, taken, response);
     let front = front(taken, response);
-    write_front(users, &envelope, &front, bindings, limit)
+    write_front(users, &envelope, &front, bindings, response.limit)
+}
+
+/// How many of these bindings, from the first on, the Response to what was taken has room for within its limit. None:
+/// it is longer without any. Nothing is written and no key is used.
+pub(crate) fn fitting<B: Spelled>(
+    users: &Users,
+    engine: &EngineId,
+    own: Pair,
+    taken: &Taken<'_>,
+    response: &Response,
+    bindings: &[B],
+) -> Option<usize>
+    requires bindings { All (λ b. B.fits b) bindings.now }
+    ensures some { (c : Contexts) (p : PduParts)
+        → ScopedFront (text_of taken.now.text) c → PduText c.pdu p
+        → IfSome result (IsLongestFront users.now.users (room response.now.limit)
+        (λ vs. responding engine.now own (given_of taken.now) c p response.now.status response.now.index vs
+        response.now.salt) (map B.says bindings.now)) }
+    ensures none { (c : Contexts) (p : PduParts)
+        → ScopedFront (text_of taken.now.text) c → PduText c.pdu p
+        → IfNone result (IsBeyond users.now.users (room response.now.limit)
+        (responding engine.now own (given_of taken.now) c p response.now.status response.now.index []
+        response.now.salt)) }
+{
+    let envelope = envelope(engine, own, taken, response);
+    let front = front(taken, response);
+    count_within(
+        users,
+        &envelope,
+        &front,
+        bindings,
+        response.limit.min(LARGEST),
+    )
 }

@@ -1,6 +1,6 @@
 //! Laws of Responses and reports. Each function does nothing: its contract is the law.
 
-ghost use Rattle.std.specs.Prelude.{◌≡◌, ◌≤◌, ℕ, ℤ, List, [], length, Ok};
+ghost use Rattle.std.specs.Prelude.{◌≡◌, ◌≤◌, ℕ, ℤ, List, [], length, Ok, Result};
 ghost use Rattle.snmp_ber.specs.declared.number.TheConstants.{MAX_INTEGER32};
 ghost use Rattle.snmp_message.specs.Scoped.{Contexts};
 ghost use Rattle.snmp_msg.specs.Variables.{Variable};
@@ -11,9 +11,14 @@ ghost use Rattle.engine_clock.specs.Pairs.{BootsAndTime, IsPair};
 ghost use Rattle.engine_clock.specs.Marks.{Marks};
 ghost use Rattle.usm_users.specs.User.{User};
 ghost use Rattle.usm_core.specs.Verified.{manager};
-ghost use Rattle.usm_core.specs.Sealed.{Seals, SealedText};
+ghost use Rattle.usm_core.specs.Sealed.{Seals, SealedText, Sending};
 ghost use Rattle.snmp_incoming.specs.Outcome.{Given, as_manager};
+ghost use Rattle.snmp_message.specs.declared.refusal.Refusal.{Refusal};
+ghost use Rattle.snmp_message.specs.declared.message.TheConstants.{LARGEST};
 ghost use Rattle.snmp_outgoing.specs.Accepts.{IsTakenInTime};
+ghost use Rattle.snmp_outgoing.specs.UpTo.{UpTo};
+ghost use Rattle.snmp_agent.specs.Agent.{AgentState};
+ghost use Rattle.snmp_agent.specs.Sent.{Sends};
 ghost use Rattle.snmp_outgoing.specs.Speaks.{spoken_contexts, SpeechFits, HasSameUser};
 ghost use Rattle.snmp_outgoing.specs.declared.counter.Counter.{Counter as Which};
 ghost use Rattle.snmp_agent.specs.Responses.{response, responding};
@@ -111,3 +116,10 @@ pub fn too_big_is_short()
     one_element();
     sealed_size();
 }
+
+/// No text that is sent has more than 65,507 octets, so that a limit of as many cuts nothing.
+pub fn no_text_is_longer()
+    ensures { (agent : AgentState) (now : ℕ) (message : BootsAndTime → Sending)
+        (answer : Result (List ℕ) Refusal) → UpTo LARGEST (Sends agent now message) answer
+        → Sends agent now message answer }
+{}

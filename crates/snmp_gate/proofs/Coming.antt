@@ -14,6 +14,7 @@ use Rattle.snmp_gate.specs.declared.devices.Devices.{Devices}
 use Rattle.snmp_gate.specs.declared.requests.WaitingRequests.{WaitingRequests}
 use Rattle.snmp_gate.specs.declared.sets.RememberedSets.{RememberedSets}
 use Rattle.snmp_gate.specs.declared.work.Work.{Work}
+use Rattle.snmp_gate.proofs.Causing.{causes_moved}
 use Rattle.snmp_gate.proofs.Histories.{moved}
 use Rattle.snmp_gate.specs.declared.gate.ClientTaken.{ClientTaken}
 use Rattle.snmp_gate.specs.declared.gate.ClientTaken.TheVariants as client
@@ -46,8 +47,8 @@ module _ (old new : Gate) (now : ℕ) (from datagram : List ℕ) (m : WaitingMes
   message_happens mid (Err none) is accepts digest stood takes = tt
 
 -- the same, with an agent that is the same
-pub same_stands : (old mid : Gate) → mid.agent ≡ old.agent → mid.devices ≡ old.devices → mid.asks ≡ old.asks → mid.requests ≡ old.requests → mid.sets ≡ old.sets → (since : ℕ) (before : List Happening) → GateStands since before old → GateStands since before mid
-same_stands old mid agent devices asks requests sets since before stands = record {
+pub same_stands : (old mid : Gate) → mid.limits ≡ old.limits → mid.agent ≡ old.agent → mid.devices ≡ old.devices → mid.asks ≡ old.asks → mid.requests ≡ old.requests → mid.sets ≡ old.sets → (since : ℕ) (before : List Happening) → GateStands since before old → GateStands since before mid
+same_stands old mid limits agent devices asks requests sets since before stands = record {
   requests = moved old.agent.tables mid.agent.tables old.devices.list.items mid.devices.list.items before old.requests.next mid.requests.next (groups_of old.requests.list.items) (groups_of mid.requests.list.items)
       (ap (λ (a : AgentState). a.tables) agent)
       (ap (λ (d : Devices). d.list.items) devices)
@@ -59,6 +60,8 @@ same_stands old mid agent devices asks requests sets since before stands = recor
       (subst (λ (s : RememberedSets). SetsStand since before (groups_of old.requests.list.items) s.sets.items) (sym sets) stands.sets);
   outcomes = subst (λ (rs : WaitingRequests WaitingMessage Work). OutcomesStand before (groups_of rs.list.items) mid.sets.sets.items) (sym requests)
       (subst (λ (s : RememberedSets). OutcomesStand before (groups_of old.requests.list.items) s.sets.items) (sym sets) stands.outcomes);
+  causes = causes_moved old mid before (groups_of old.requests.list.items) limits (ap (λ (a : AgentState). a.engine) agent) (ap (λ (a : AgentState). a.tables) agent) devices
+      (ap (λ (rs : WaitingRequests WaitingMessage Work). groups_of rs.list.items) requests) stands.causes;
 }
 
 -- what isn't refused needs no refusal

@@ -1,10 +1,10 @@
 -- How a device's answer ends a request.
-use Rattle.std.specs.Prelude.{◌≡◌, None}
-use Rattle.std.proofs.Common.{ap, inr, refl, sym, ◌∙◌}
+use Rattle.std.specs.Prelude.{◌≡◌, ◌≤◌, None}
+use Rattle.std.proofs.Common.{ap, arith, inr, refl, sym, ◌∙◌}
 use Rattle.snmp_msg.specs.Pdu.{pdu_of}
 use Rattle.snmp_msg.specs.declared.pdu.Pdu.{Pdu}
 use Rattle.snmp_gate.specs.SetOutcome.{IsToldStatus}
-use Rattle.snmp_gate.specs.Work.{IsOwnStatus, SaysAll, TaskStands, request_of_task}
+use Rattle.snmp_gate.specs.Work.{IsOwnStatus, SaysAll, TaskStands, most_repetitions, request_of_task}
 use Rattle.snmp_gate.specs.declared.set_answer.ResponseStatus.{ResponseStatus}
 use Rattle.snmp_msg.specs.PduTypes.{pdu_tag}
 use Rattle.snmp_msg.specs.declared.pdu_type.PduType.TheVariants.{SetRequest}
@@ -47,9 +47,9 @@ set_taken tables q told answer (Unfit why) all stands is = absurd is
 pub one_open : (w : Work) (a b : OpenRequest) → w ≡ Open a → w ≡ Open b → a ≡ b
 one_open w a b is also = let same : Open a ≡ Open b = sym is ∙ also in cc
 
-pub after_same : (tables : Tables) (q : Question) (told : Said) (a b : OpenRequest) (w : Work) → a.device ≡ b.device → a.timer ≡ b.timer → WorkAfter tables q told a w → WorkAfter tables q told b w
-after_same tables q told a b (Open new) device timer after = (after.0, after.1 ∙ device, after.2, after.3, after.4 ∙ ap (λ (t : Timer). t.began) timer)
-after_same tables q told a b (work.Ends e) device timer after = after
+pub after_same : (tables : Tables) (q : Question) (told : Said) (a b : OpenRequest) (w : Work) → a.device ≡ b.device → a.timer ≡ b.timer → most_repetitions a.task.task ≤ most_repetitions b.task.task → WorkAfter tables q told a w → WorkAfter tables q told b w
+after_same tables q told a b (Open new) device timer fewer after = (after.0, after.1 ∙ device, after.2, after.3, after.4 ∙ ap (λ (t : Timer). t.began) timer, omega (arith, after.5, fewer))
+after_same tables q told a b (work.Ends e) device timer fewer after = after
 
 pub never_open : (w : Work) (e : RequestEnd) (o : OpenRequest) → w ≡ work.Ends e → w ≡ Open o → ⊥
 never_open w e o is also = let same : work.Ends e ≡ Open o = sym is ∙ also in cc

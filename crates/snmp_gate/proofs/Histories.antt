@@ -22,6 +22,7 @@ use Rattle.snmp_gate.specs.Replies.{Answering, ClientAnswer, IsAnswerTo, answer_
 use Rattle.snmp_gate.specs.Sending.{IsGivenUp, IsOpenAt, MayAskAt, RepliesTo, Requests, SetsAsked, again_in}
 use Rattle.snmp_gate.specs.declared.devices.Devices.{Devices}
 use Rattle.snmp_gate.specs.declared.gate.Gate.{Gate}
+use Rattle.snmp_gate.specs.declared.limits.GateLimits.{GateLimits}
 use Rattle.snmp_gate.specs.declared.reply.Reply.{Reply}
 use Rattle.snmp_gate.specs.declared.reply.Reply.TheVariants as reply
 use Rattle.snmp_gate.specs.Taking.{IsCommunityOfTask, IsCommunityOfWork, WaitsFor, WorkAfter}
@@ -37,14 +38,15 @@ use Rattle.snmp_gate.specs.declared.work.RequestEnd.TheVariants as ending
 use Rattle.std.proofs.lemmas.Bool.{false≢true}
 use Rattle.snmp_gate.specs.declared.requests.WaitingRequest.{WaitingRequest}
 use Rattle.snmp_gate.proofs.GroupSteps.{group_at, groups_set}
-use Rattle.snmp_gate.specs.History.{AskedBy, Happening, IsAccepted, IsAnswerOf, IsCommunityFor, IsMediated, IsToldAgain, IsAskFor, OpenAsk, accepted, answered, asked, asked_more, ends_in, exchange_in, given_up, more_said, number_of, open_ask, said_by, sent, told_in, unanswered, waiting_in}
+use Rattle.snmp_gate.specs.History.{AskedBy, Happening, IsAccepted, IsCauseFor, IsAnswerOf, IsCommunityFor, IsMediated, IsToldAgain, IsAskFor, OpenAsk, accepted, answered, asked, asked_more, ends_in, exchange_in, given_up, more_said, number_of, open_ask, said_by, sent, told_in, unanswered, waiting_in}
 use Rattle.snmp_gate.specs.Lawful.{IsInTurn, IsNext, WasAsked}
-use Rattle.snmp_gate.specs.Limits.{asks_since}
+use Rattle.snmp_gate.specs.Limits.{IsSilent, asks_since}
+use Rattle.snmp_message.specs.declared.refusal.Refusal.{Refusal}
 use Rattle.snmp_gate.specs.Question.{Question}
 use Rattle.snmp_gate.specs.Time.{times_asked}
-use Rattle.snmp_gate.specs.Waiting.{AllCameFrom, AreNumbered, GroupStands, GroupsStand, OpenStands, RequestsStand, WorkStands}
+use Rattle.snmp_gate.specs.Waiting.{AllCameFrom, AreNumbered, CausesStand, EndsByCause, GroupStands, GroupsStand, OpenStands, RequestsStand, WorkStands}
 use Rattle.snmp_gate.specs.ReadErrors.{too_big as too_big_error}
-use Rattle.snmp_gate.specs.Work.{EndingStands, SaysAll, TaskStands, again_of, end_of, request_of_task}
+use Rattle.snmp_gate.specs.Work.{EndingStands, IsWhyOf, SaysAll, TaskStands, again_of, end_of, most_repetitions, request_of_task}
 use Rattle.snmp_gate.specs.declared.devices.Device.{Device}
 use Rattle.snmp_gate.specs.declared.waiting_message.WaitingMessage.{WaitingMessage}
 use Rattle.snmp_gate.specs.declared.work.OpenRequest.{OpenRequest}
@@ -54,8 +56,11 @@ use Rattle.snmp_gate.proofs.Asked.{none_is_some}
 use Rattle.gateway_laws.specs.Requests.{RequestPdu}
 use Rattle.snmp_gate.proofs.Others.{ask_later, ask_other, chosen, contains_cons, open_other, same_number, since_other, told_other, wait_other, was_before, was_other}
 use Rattle.snmp_gate.proofs.More.{HasAll, task_more}
+use Rattle.snmp_gate.proofs.Repetitions.{task_repeats}
 use Rattle.snmp_gate.proofs.Pairs.{pairs_set}
-use Rattle.snmp_gate.proofs.Questions.{all_worked, numbered_left}
+use Rattle.snmp_gate.proofs.Questions.{all_worked, at_place, numbered_left}
+use Rattle.snmp_gate.proofs.Causing.{EndsNow}
+use Rattle.snmp_gate.proofs.Whys.{answer_weaker, why_cause}
 use Rattle.snmp_gate.proofs.Telling.{contains_map}
 
 abbrev pub Waiting : Type 0
@@ -80,6 +85,7 @@ pub work_later : (tables : Tables) (devices : List Device) (e : Happening) (befo
 work_later tables devices e before n q (Open o) told ask since was came stands = record {
   task = subst (λ (vs : Said). TaskStands tables q vs o.task.task) (sym told) stands.task;
   device = stands.device;
+  repetitions = stands.repetitions;
   asked = λ id is. ask ∙ stands.asked id is;
   set_once = λ set none asked. stands.set_once set none (was asked);
   came = came_later e before n o.timer.began came stands.came;
@@ -241,18 +247,20 @@ told_more n device p datagram before =
           (Contains-append_right (exchange_in (open_ask n before) p) told.exchanges e there);
     }
 
-after_stands : (tables : Tables) (devices : List Device) (before : List Happening) (n : ℕ) (q : Question) (o : OpenRequest) (w : Work) → IsDeviceOf devices q.context o.device → AllCameFrom before n o.timer.began → asks_since n before ≡ 0 → WorkAfter tables q (told_in n before) o w
+after_stands : (tables : Tables) (devices : List Device) (before : List Happening) (n : ℕ) (q : Question) (o : OpenRequest) (w : Work) → IsDeviceOf devices q.context o.device
+    → HoldsAt (λ (d : Device). most_repetitions o.task.task ≤ d.repetitions) devices o.device → AllCameFrom before n o.timer.began → asks_since n before ≡ 0 → WorkAfter tables q (told_in n before) o w
     → WorkStands tables devices before n q w
-after_stands tables devices before n q o (Open new) device came since after = record {
+after_stands tables devices before n q o (Open new) device few came since after = record {
   task = after.0;
   device = subst (IsDeviceOf devices q.context) (sym after.1) device;
+  repetitions = subst (λ (at : ℕ). HoldsAt (λ (d : Device). most_repetitions new.task.task ≤ d.repetitions) devices at) (sym after.1) (λ d. let most = few d in omega (arith, most, after.5));
   asked = λ id is. absurd (let none : None ≡ Some id = sym after.2 ∙ is in cc);
   set_once = λ set none was. after.3 set;
   came = subst (AllCameFrom before n) (sym after.4) came;
   unasked = λ none. since;
   tried = omega (arith, since);
 }
-after_stands tables devices before n q o (Ends e) device came since after = after
+after_stands tables devices before n q o (Ends e) device few came since after = after
 
 pub group_in : (tables : Tables) (devices : List Device) (before : List Happening) (next : ℕ) (gs : List Waiting) (place : ℕ) (g : Waiting) → IsAt gs place g → GroupsStand tables devices before next gs → GroupStands tables devices before g
 group_in tables devices before next gs place g at stands = subst (GroupStands tables devices before) (sym at.group_is) (stands.all place g at.within)
@@ -285,7 +293,7 @@ answered_all tables devices before next rs place r w device id answer datagram c
       are_accepted = All-weaker (IsAccepted before n) (IsAccepted (now ∷ before) n) (later now before n) (group_of r).messages group.are_accepted;
       wait = group.wait;
       one = ask_later now before n q (λ at w m same. absurd (answered_not_accepted n device (pdu_of answer) datagram n at w m same)) group.one;
-      work = after_stands tables devices (now ∷ before) n q o w open_stands.device
+      work = after_stands tables devices (now ∷ before) n q o w open_stands.device open_stands.repetitions
           (came_later now before n o.timer.began (λ at v m same. absurd (answered_not_accepted n device (pdu_of answer) datagram n at v m same)) open_stands.came)
           (chosen n 0 (asks_since n before)) after_now;
     } in (
@@ -379,6 +387,8 @@ asked_all agent devices before next rs new place device number id datagram withi
       task = subst (λ (t : NamedTask). TaskStands tables q (told_in r.number (now ∷ before)) t.task) (sym a.2)
           (task_more tables q (told_in r.number before) (told_in r.number (now ∷ before)) o.task.task (asked_has r.number device id what datagram.items before) open_stands.task);
       device = subst (IsDeviceOf devices q.context) (sym a.3) open_stands.device;
+      repetitions = subst (λ (at : ℕ). HoldsAt (λ (d : Device). most_repetitions a.0.task.task ≤ d.repetitions) devices at) (sym a.3)
+          (subst (λ (t : NamedTask). HoldsAt (λ (d : Device). most_repetitions t.task ≤ d.repetitions) devices o.device) (sym a.2) open_stands.repetitions);
       asked = λ other is.
           let one = same_some id other (sym a.4 ∙ is) in
           let first : open_ask r.number (now ∷ before) ≡ Some (record { device = device; id = id; request = what }) =
@@ -404,7 +414,16 @@ asked_all agent devices before next rs new place device number id datagram withi
     let groups_are : groups_of new ≡ slice_set (groups_of rs) place (group_of h) = ap (λ (xs : Requests). groups_of xs) sets.new_is ∙ groups_set rs place h in
     subst (λ (n : ℕ). AsksAll agent devices before next n device id datagram.items (groups_of new)) is_open.0 (record {
       request = what;
-      mediated = (q, by, subst (IsDeviceOf devices q.context) on open_stands.device, may_ask o q (told_in r.number before) work_is by.asks open_stands.task);
+      mediated = (
+        q,
+        by,
+        subst (IsDeviceOf devices q.context) on open_stands.device,
+        λ d. (
+          may_ask o q (told_in r.number before) work_is by.asks open_stands.task d,
+          (let few = subst (HoldsAt (λ (x : Device). most_repetitions o.task.task ≤ x.repetitions) devices) on open_stands.repetitions d in
+              omega (arith, few, task_repeats tables q (told_in r.number before) o.task.task open_stands.task)),
+        ),
+      );
       stands = record {
         all = subst (λ (gs : List Waiting). All (GroupStands tables devices (now ∷ before)) gs) (sym groups_are)
             (all_set (GroupStands tables devices before) (GroupStands tables devices (now ∷ before)) (groups_of rs) place (group_of r) (group_of h) stands.numbered.rise at stands.all h_stands
@@ -532,15 +551,15 @@ sent_takes n m by w before = record {
   none = λ k at v x is. let same : sent n m by w ≡ accepted k at v x = is in cc;
 }
 
-unanswered_takes : (n : ℕ) (m : WaitingMessage) (before : List Happening) → TakesOne (unanswered n m) before n
-unanswered_takes n m before = record {
+unanswered_takes : (n : ℕ) (m : WaitingMessage) (by : Answering) (why : Option Refusal) (before : List Happening) → TakesOne (unanswered n m by why) before n
+unanswered_takes n m by why before = record {
   number = refl;
   wait = chosen n (drop 1 (waiting_in n before)) (waiting_in n before);
   told = refl;
   ask = refl;
   since = refl;
-  was = was_before (unanswered n m) before n (λ d id vs v is. let same : unanswered n m ≡ asked n d id vs v = is in cc);
-  none = λ k at v x is. let same : unanswered n m ≡ accepted k at v x = is in cc;
+  was = was_before (unanswered n m by why) before n (λ d id vs v is. let same : unanswered n m by why ≡ asked n d id vs v = is in cc);
+  none = λ k at v x is. let same : unanswered n m by why ≡ accepted k at v x = is in cc;
 }
 
 -- the same, with what is equal
@@ -560,22 +579,32 @@ IsReplyWith (reply.Responds says datagram) answer = answer ≡ answer_with (Some
 IsReplyWith (reply.Reports datagram) answer = answer ≡ answer_with None datagram
 IsReplyWith _ answer = ⊥
 
-answer_law : (agent : AgentState) (devices : List Device) (before : List Happening) (n seconds : ℕ) (salt : List ℕ) (q : Question) (g : Given) (w : Work) (r : Reply) (answer : ClientAnswer) → IsReplyWith r answer
-    → RepliesTo agent seconds salt q (told_in n before) g w r → WorkStands agent.tables devices before n q w
-    → IsAnswerTo (record { agent = agent; now = seconds; salt = salt }) agent.tables q (told_in n before) (again_in w) g answer
-answer_law agent devices before n seconds salt q g (Ends e) (reply.Responds says datagram) answer is replies stands =
-    subst (λ (a : ClientAnswer). IsAnswerTo (record { agent = agent; now = seconds; salt = salt }) agent.tables q (told_in n before) (again_of e) g a) (sym is) (replies stands)
-answer_law agent devices before n seconds salt q g (Ends e) (reply.Reports datagram) answer is replies stands =
-    subst (λ (a : ClientAnswer). IsAnswerTo (record { agent = agent; now = seconds; salt = salt }) agent.tables q (told_in n before) (again_of e) g a) (sym is) (replies stands)
-answer_law agent devices before n seconds salt q g (Ends e) reply.Nothing answer is replies stands = absurd is
-answer_law agent devices before n seconds salt q g (Ends e) reply.SilentDrop answer is replies stands = absurd is
-answer_law agent devices before n seconds salt q g (Ends e) (reply.Refused why) answer is replies stands = absurd is
-answer_law agent devices before n seconds salt q g (Open o) r answer is replies stands = absurd replies
+-- the report of an end is for a cause that holds
+ended_law : (limits : GateLimits) (agent : AgentState) (devices : List Device) (before : List Happening) (n seconds : ℕ) (salt : List ℕ) (q : Question) (g : Given) (e : RequestEnd) (answer : ClientAnswer)
+    → IsAnswerTo (record { agent = agent; now = seconds; salt = salt }) agent.tables q (told_in n before) (again_of e) (IsWhyOf e) g answer → EndsNow limits agent.engine agent.tables devices before n q (Ends e)
+    → IsAnswerTo (record { agent = agent; now = seconds; salt = salt }) agent.tables q (told_in n before) (again_of e) (IsCauseFor agent.engine agent.tables devices before n q) g answer
+ended_law limits agent devices before n seconds salt q g e answer is ends =
+    let Cause = IsCauseFor agent.engine agent.tables devices before n q in
+    answer_weaker (IsWhyOf e) Cause (record { agent = agent; now = seconds; salt = salt }) agent.tables q (told_in n before) (again_of e) g answer (λ why. why_cause Cause (IsSilent limits before n q) e why ends) is
+
+answer_law : (limits : GateLimits) (agent : AgentState) (devices : List Device) (before : List Happening) (n seconds : ℕ) (salt : List ℕ) (q : Question) (g : Given) (w : Work) (r : Reply) (answer : ClientAnswer) → IsReplyWith r answer
+    → RepliesTo agent seconds salt q (told_in n before) g w r → WorkStands agent.tables devices before n q w → EndsNow limits agent.engine agent.tables devices before n q w
+    → IsAnswerTo (record { agent = agent; now = seconds; salt = salt }) agent.tables q (told_in n before) (again_in w) (IsCauseFor agent.engine agent.tables devices before n q) g answer
+answer_law limits agent devices before n seconds salt q g (Ends e) (reply.Responds says datagram) answer is replies stands ends =
+    ended_law limits agent devices before n seconds salt q g e answer (subst (λ (a : ClientAnswer). IsAnswerTo (record { agent = agent; now = seconds; salt = salt }) agent.tables q (told_in n before) (again_of e) (IsWhyOf e) g a) (sym is) (replies stands)) ends
+answer_law limits agent devices before n seconds salt q g (Ends e) (reply.Reports datagram) answer is replies stands ends =
+    ended_law limits agent devices before n seconds salt q g e answer (subst (λ (a : ClientAnswer). IsAnswerTo (record { agent = agent; now = seconds; salt = salt }) agent.tables q (told_in n before) (again_of e) (IsWhyOf e) g a) (sym is) (replies stands)) ends
+answer_law limits agent devices before n seconds salt q g (Ends e) reply.Nothing answer is replies stands ends = absurd is
+answer_law limits agent devices before n seconds salt q g (Ends e) reply.SilentDrop answer is replies stands ends = absurd is
+answer_law limits agent devices before n seconds salt q g (Ends e) (reply.Refused why) answer is replies stands ends = absurd is
+answer_law limits agent devices before n seconds salt q g (Open o) r answer is replies stands ends = absurd replies
 
 -- what is left of a gateway is this, where a message was answered
 pub record IsLeftAfter (old : Gate) (place : ℕ) (m : WaitingMessage) (new : Gate) : Type 0 where
+  pub engine : new.agent.engine ≡ old.agent.engine
   pub tables : new.agent.tables ≡ old.agent.tables
   pub devices : new.devices ≡ old.devices
+  pub limits : new.limits ≡ old.limits
   pub next : new.requests.next ≡ old.requests.next
   pub answer : IsAnswered (groups_of old.requests.list.items) place m (groups_of new.requests.list.items)
 
@@ -616,18 +645,27 @@ pub first_of : (old new : Gate) (before : List Happening) (place : ℕ) (r : Wai
     → IsLeftAfter old place m new → RequestsStand before old → r.first ≡ m
 first_of old new before place r m within is left stands = (first_at old new before place r m within is left stands).first
 
+-- the request at a place ends by its cause
+pub by_its_cause : (old : Gate) (before : List Happening) (place : ℕ) (r : WaitingRequest WaitingMessage Work) (q : Question) → place < length old.requests.list.items → r ≡ slice_index_or old.requests.list.items place r → question_in r.first ≡ Some q
+    → CausesStand before old → EndsNow old.limits old.agent.engine old.agent.tables old.devices.list.items before r.number q r.work
+by_its_cause old before place r q within is asks causes =
+    let rs = old.requests.list.items in
+    at_place (EndsByCause old.limits old.agent.engine old.agent.tables old.devices.list.items before) (groups_of rs) place (group_of r) (group_at rs place r within is) causes r.first q
+    (Contains-append_left (r.first ∷ []) r.others.items r.first (Contains-push [] r.first)) asks
+
 pub sent_all : (old new : Gate) (before : List Happening) (place seconds : ℕ) (salt : List ℕ) (r : WaitingRequest WaitingMessage Work) (m : WaitingMessage) (replied : Reply) (answer : ClientAnswer) → place < length old.requests.list.items
     → r ≡ slice_index_or old.requests.list.items place r → IsLeftAfter old place m new → IsReplyWith replied answer
     → ((q : Question) (said : Said) → question_in r.first ≡ Some q → RepliesTo old.agent seconds salt q said r.first.kept r.work replied)
-    → IfSome (again_in r.work) (IsToldAgain before r.number m) → RequestsStand before old → IsEnd old before (sent r.number m (record { agent = old.agent; now = seconds; salt = salt }) answer) new
-sent_all old new before place seconds salt r m replied answer within is left with_this replies may stands =
+    → IfSome (again_in r.work) (IsToldAgain before r.number m) → RequestsStand before old → CausesStand before old → IsEnd old before (sent r.number m (record { agent = old.agent; now = seconds; salt = salt }) answer) new
+sent_all old new before place seconds salt r m replied answer within is left with_this replies may stands causes =
     let by : Answering = record { agent = old.agent; now = seconds; salt = salt } in
     let at = first_at old new before place r m within is left stands in
     let group = at.group in
     let first = at.first in
     let asks = All-head (λ (x : WaitingMessage). question_in x ≡ Some group.question) r.first r.others.items group.asks in
     let again = again_in r.work in
-    let law = answer_law old.agent old.devices.list.items before r.number seconds salt group.question r.first.kept r.work replied answer with_this (replies group.question (told_in r.number before) asks) group.work in
+    let law = answer_law old.limits old.agent old.devices.list.items before r.number seconds salt group.question r.first.kept r.work replied answer with_this (replies group.question (told_in r.number before) asks) group.work
+    (by_its_cause old before place r group.question within is asks causes) in
     let accepted_first = All-head (IsAccepted before r.number) r.first r.others.items group.are_accepted in record {
       mediated = (
         subst (λ (x : WaitingMessage). IsAccepted before r.number x) first accepted_first,
@@ -636,27 +674,27 @@ sent_all old new before place seconds salt r m replied answer within is left wit
           may,
           λ q asked.
               let one = same_some group.question q (sym asks ∙ ap question_in first ∙ asked) in
-              subst (λ (x : WaitingMessage). IsAnswerTo by old.agent.tables q (told_in r.number before) again x.kept answer) first
-              (subst (λ (x : Question). IsAnswerTo by old.agent.tables x (told_in r.number before) again r.first.kept answer) one law),
+              subst (λ (x : WaitingMessage). IsAnswerTo by old.agent.tables q (told_in r.number before) again (IsCauseFor old.agent.engine old.agent.tables old.devices.list.items before r.number q) x.kept answer) first
+              (subst (λ (x : Question). IsAnswerTo by old.agent.tables x (told_in r.number before) again (IsCauseFor old.agent.engine old.agent.tables old.devices.list.items before r.number x) r.first.kept answer) one law),
         ),
       );
       in_turn = at.turn;
       requests = left_stands old new (sent r.number m by answer) before place m left (subst (TakesOne (sent r.number m by answer) before) at.number_is (sent_takes r.number m by answer before)) stands;
     }
 
-pub unanswered_all : (old new : Gate) (before : List Happening) (place : ℕ) (r : WaitingRequest WaitingMessage Work) (m : WaitingMessage) → place < length old.requests.list.items
-    → r ≡ slice_index_or old.requests.list.items place r → IsLeftAfter old place m new → RequestsStand before old → IsEnd old before (unanswered r.number m) new
-unanswered_all old new before place r m within is left stands =
+pub unanswered_all : (old new : Gate) (before : List Happening) (place : ℕ) (r : WaitingRequest WaitingMessage Work) (m : WaitingMessage) (by : Answering) (why : Option Refusal) → place < length old.requests.list.items
+    → r ≡ slice_index_or old.requests.list.items place r → IsLeftAfter old place m new → RequestsStand before old → IsEnd old before (unanswered r.number m by why) new
+unanswered_all old new before place r m by why within is left stands =
     let at = first_at old new before place r m within is left stands in record {
       mediated = subst (λ (x : WaitingMessage). IsAccepted before r.number x) at.first (All-head (IsAccepted before r.number) r.first r.others.items at.group.are_accepted);
       in_turn = at.turn;
-      requests = left_stands old new (unanswered r.number m) before place m left (subst (TakesOne (unanswered r.number m) before) at.number_is (unanswered_takes r.number m before)) stands;
+      requests = left_stands old new (unanswered r.number m by why) before place m left (subst (TakesOne (unanswered r.number m by why) before) at.number_is (unanswered_takes r.number m by why before)) stands;
     }
 
-pub given_up_ends : (tables : Tables) (e : RequestEnd) → IsGivenUp e → (q : Question) (told : Said) → EndingStands tables q told e
-given_up_ends tables ending.Silent is q told = tt
-given_up_ends tables (ending.Unhandled why) is q told = tt
-given_up_ends tables _ is q told = absurd is
+pub given_up_ends : (tables : Tables) (limits : GateLimits) (w : Work) (e : RequestEnd) → IsGivenUp limits w e → (q : Question) (told : Said) → EndingStands tables q told e
+given_up_ends tables limits w ending.Silent is q told = tt
+given_up_ends tables limits w (ending.Unhandled why) is q told = tt
+given_up_ends tables limits w _ is q told = absurd is
 
 -- tooBig may be told of any request
 pub too_long : (tables : Tables) (q : Question) (told : Said) → EndingStands tables q told (ending.Own (record { status = TOO_BIG; index = pos 0 }))

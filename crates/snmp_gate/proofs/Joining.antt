@@ -112,6 +112,7 @@ begins_well : (tables : Tables) (devices : List Device) (before : List Happening
 begins_well tables devices before n q (Open o) never came since nothing well = record {
   task = well.0 (told_in n before) nothing;
   device = well.1;
+  repetitions = well.3;
   asked = λ id is. absurd (none_is_some id (sym well.2 ∙ is));
   set_once = λ set none. never;
   came = came;

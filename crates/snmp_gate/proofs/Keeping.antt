@@ -20,6 +20,7 @@ use Rattle.snmp_gate.specs.declared.take_client.Noted.{Noted}
 use Rattle.snmp_gate.specs.declared.take_client.Noted.TheVariants as noted
 use Rattle.snmp_gate.specs.declared.waiting_message.WaitingMessage.{WaitingMessage}
 use Rattle.snmp_gate.specs.declared.work.Work.{Work}
+use Rattle.snmp_gate.proofs.Causing.{causes_moved}
 use Rattle.snmp_gate.proofs.Coming.{same_stands}
 use Rattle.snmp_gate.proofs.Histories.{moved}
 use Rattle.snmp_gate.proofs.Same.{work_as_before}
@@ -59,9 +60,9 @@ unnoted now digest w a b c noted.Before is un = subst (KeepsSets now a) (sym un)
 unnoted now digest w a b c noted.NoRoom is un = subst (KeepsSets now a) (sym un) (inr is.2.2)
 
 -- a gateway with the same requests and asks, which remembers what may still come
-pub stands_kept : (now : ℕ) (old new : Gate) → new.agent.tables ≡ old.agent.tables → new.devices ≡ old.devices → asks_in new.asks.items ≡ asks_in old.asks.items → groups_of new.requests.list.items ≡ groups_of old.requests.list.items
+pub stands_kept : (now : ℕ) (old new : Gate) → new.limits ≡ old.limits → new.agent.engine ≡ old.agent.engine → new.agent.tables ≡ old.agent.tables → new.devices ≡ old.devices → asks_in new.asks.items ≡ asks_in old.asks.items → groups_of new.requests.list.items ≡ groups_of old.requests.list.items
     → new.requests.next ≡ old.requests.next → KeepsSets now old.sets.sets.items new.sets.sets.items → (since : ℕ) (before : List Happening) → since ≤ now → GateStands since before old → GateStands now before new
-stands_kept now old new tables devices asks groups next keeps since before later stands = record {
+stands_kept now old new limits engine tables devices asks groups next keeps since before later stands = record {
   requests = moved old.agent.tables new.agent.tables old.devices.list.items new.devices.list.items before old.requests.next new.requests.next (groups_of old.requests.list.items) (groups_of new.requests.list.items)
       tables (ap (λ (d : Devices). d.list.items) devices) next groups stands.requests;
   asks = subst (AsksStand before) (sym asks) stands.asks;
@@ -71,15 +72,16 @@ stands_kept now old new tables devices asks groups next keeps since before later
   outcomes = subst (λ (gs : List (Group WaitingMessage Work)). OutcomesStand before gs new.sets.sets.items) (sym groups)
       (outcomes_kept before (groups_of old.requests.list.items) (groups_of old.requests.list.items) old.sets.sets.items new.sets.sets.items (from_kept before now old.sets.sets.items new.sets.sets.items keeps)
       (were_again (groups_of old.requests.list.items)) stands.outcomes);
+  causes = causes_moved old new before (groups_of old.requests.list.items) limits engine tables devices groups stands.causes;
 }
 
 pub stands_later : (now : ℕ) (g : Gate) (since : ℕ) (before : List Happening) → since ≤ now → GateStands since before g → GateStands now before g
-stands_later now g = stands_kept now g g refl refl refl refl refl (inl refl)
+stands_later now g = stands_kept now g g refl refl refl refl refl refl refl (inl refl)
 
 -- the same, where only the Sets changed that are remembered
 pub stands_noted : (now : ℕ) (old new : Gate) → SameButSets old new → KeepsSets now old.sets.sets.items new.sets.sets.items → (since : ℕ) (before : List Happening) → since ≤ now → GateStands since before old → GateStands now before new
 stands_noted now old new same keeps =
-    stands_kept now old new (ap (λ (a : AgentState). a.tables) same.agent) same.devices (ap (λ (v : Vec DeviceAsks). asks_in v.items) same.asks) (ap (λ (rs : WaitingRequests WaitingMessage Work). groups_of rs.list.items) same.requests)
+    stands_kept now old new same.limits (ap (λ (a : AgentState). a.engine) same.agent) (ap (λ (a : AgentState). a.tables) same.agent) same.devices (ap (λ (v : Vec DeviceAsks). asks_in v.items) same.asks) (ap (λ (rs : WaitingRequests WaitingMessage Work). groups_of rs.list.items) same.requests)
     (ap (λ (rs : WaitingRequests WaitingMessage Work). rs.next) same.requests) keeps
 
 -- what still lasts is the same
@@ -111,7 +113,7 @@ as_before now old new agent devices limits asks groups next sets = record {
   work = work_as_before (groups_of old.requests.list.items) (groups_of new.requests.list.items) groups;
   next = next;
   sets = sets;
-  stands = stands_kept now old new (ap (λ (a : AgentState). a.tables) agent) devices (ap (λ (v : Vec DeviceAsks). asks_in v.items) asks) groups next sets;
+  stands = stands_kept now old new limits (ap (λ (a : AgentState). a.engine) agent) (ap (λ (a : AgentState). a.tables) agent) devices (ap (λ (v : Vec DeviceAsks). asks_in v.items) asks) groups next sets;
 }
 
 -- nothing changes
@@ -136,7 +138,7 @@ forgotten now old mid requests new digest n note last groups next is kind un =
 pub as_before_same : (now : ℕ) (old mid new : Gate) → mid.agent ≡ old.agent → mid.devices ≡ old.devices → mid.limits ≡ old.limits → mid.asks ≡ old.asks → mid.requests ≡ old.requests → mid.sets ≡ old.sets
     → IsAsBefore now mid new → IsAsBefore now old new
 as_before_same now old mid new agent devices limits asks requests sets is =
-    let same_first = same_stands old mid agent devices asks requests sets in
+    let same_first = same_stands old mid limits agent devices asks requests sets in
     let first = as_before now old mid agent devices limits asks (ap (λ (rs : WaitingRequests WaitingMessage Work). groups_of rs.list.items) requests) (ap (λ (rs : WaitingRequests WaitingMessage Work). rs.next) requests)
     (inl (ap (λ (s : RememberedSets). s.sets.items) sets)) in record {
       agent = is.agent ∙ first.agent;

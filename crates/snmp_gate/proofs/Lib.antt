@@ -10,6 +10,9 @@ pub mod Tags
 pub mod Timers
 pub mod ReadNames
 mod Erring
+mod Contextless
+mod Whys
+mod Repetitions
 mod Knowing
 mod Repeating
 pub mod Contexts
@@ -20,6 +23,7 @@ pub mod Sending
 pub mod Telling
 pub mod More
 pub mod Others
+pub mod Causing
 pub mod Histories
 pub mod Granted
 pub mod AsksKept
@@ -41,3 +45,7 @@ pub mod Todos
 pub mod AtOnce
 pub mod Through
 pub mod Untaken
+pub mod SetRooms
+pub mod Leaving
+mod Unsealed
+pub mod Told

@@ -37,7 +37,7 @@ told_other (accepted k now w m) before n other = refl
 told_other (asked k d id what w) before n other = chosen_not n k (asked_more what (told_in n before)) (told_in n before) other
 told_other (answered k d p w) before n other = chosen_not n k (more_said (open_ask n before) p (told_in n before)) (told_in n before) other
 told_other (sent k m by w) before n other = refl
-told_other (unanswered k m) before n other = refl
+told_other (unanswered k m by why) before n other = refl
 told_other (given_up k d) before n other = refl
 
 pub open_other : (e : Happening) (before : List Happening) (n : ℕ) → n ≢ number_of e → open_ask n (e ∷ before) ≡ open_ask n before
@@ -45,7 +45,7 @@ open_other (accepted k now w m) before n other = refl
 open_other (asked k d id what w) before n other = chosen_not n k (Some (record { device = d; id = id; request = what })) (open_ask n before) other
 open_other (answered k d p w) before n other = chosen_not n k None (open_ask n before) other
 open_other (sent k m by w) before n other = refl
-open_other (unanswered k m) before n other = refl
+open_other (unanswered k m by why) before n other = refl
 open_other (given_up k d) before n other = chosen_not n k None (open_ask n before) other
 
 pub wait_other : (e : Happening) (before : List Happening) (n : ℕ) → n ≢ number_of e → waiting_in n (e ∷ before) ≡ waiting_in n before
@@ -53,7 +53,7 @@ wait_other (accepted k now w m) before n other = chosen_not n k (waiting_in n be
 wait_other (asked k d id what w) before n other = refl
 wait_other (answered k d p w) before n other = refl
 wait_other (sent k m by w) before n other = chosen_not n k (drop 1 (waiting_in n before)) (waiting_in n before) other
-wait_other (unanswered k m) before n other = chosen_not n k (drop 1 (waiting_in n before)) (waiting_in n before) other
+wait_other (unanswered k m by why) before n other = chosen_not n k (drop 1 (waiting_in n before)) (waiting_in n before) other
 wait_other (given_up k d) before n other = refl
 
 -- a device was asked before, unless it is asked now
@@ -95,7 +95,7 @@ since_other (accepted k now w m) before n other = refl
 since_other (asked k d id what w) before n other = chosen_not n k (1 + asks_since n before) (asks_since n before) other
 since_other (answered k d p w) before n other = chosen_not n k 0 (asks_since n before) other
 since_other (sent k m by w) before n other = refl
-since_other (unanswered k m) before n other = refl
+since_other (unanswered k m by why) before n other = refl
 since_other (given_up k d) before n other = refl
 
 pub none_asked : (before : List Happening) (next : ℕ) → All (λ (x : Happening). number_of x < next) before → asks_since next before ≡ 0

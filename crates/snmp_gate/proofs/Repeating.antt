@@ -8,11 +8,11 @@ use Rattle.sha2.specs.Sha256.{sha256}
 use Rattle.vacm_core.specs.Tables.{Tables}
 use Rattle.snmp_gate.specs.Beginning.{IsOfDatagram, IsKnownWork, MayBeJoined}
 use Rattle.snmp_gate.specs.Groups.{Group, IsAnswered, IsAt, IsJoined, IsWorked, begun, group_of, groups_of}
-use Rattle.snmp_gate.specs.History.{CameFor, Happening, IsToldAgain, WasTold, accepted, number_of, sent}
+use Rattle.snmp_gate.specs.History.{CameFor, Happening, IsToldAgain, WasTold, accepted, sent}
 use Rattle.snmp_gate.specs.Noting.{IsNotedAgain, IsNotedFor, IsToldOf}
 use Rattle.snmp_gate.specs.Replies.{Answering, ClientAnswer}
 use Rattle.snmp_gate.specs.Sending.{Requests}
-use Rattle.snmp_gate.specs.Sets.{HasDigest, IsNoted, IsTold, KeepsSets, lasting, lasts, new_set, with_outcome}
+use Rattle.snmp_gate.specs.Sets.{IsNoted, IsTold, KeepsSets, lasting, lasts, new_set, with_outcome}
 use Rattle.snmp_gate.specs.Taking.{WorkSaysSame}
 use Rattle.snmp_gate.specs.Waiting.{GroupsStand, OutcomesStand}
 use Rattle.snmp_gate.specs.Work.{IsToldFirst}

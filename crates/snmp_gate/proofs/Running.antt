@@ -9,7 +9,7 @@ use Rattle.snmp_incoming.specs.Outcome.{Outcome}
 use Rattle.snmp_agent.specs.Agent.{AgentState, taker_of}
 use Rattle.snmp_gate.specs.Bounds.{AreBounded, AsksBounded, IsBounded}
 use Rattle.snmp_gate.specs.Limits.{AlwaysKeepsTo, IsAllowedBy, KeepsTo, WaitInTime}
-use Rattle.snmp_gate.specs.History.{Happening, IsMediated, IsAskFor, accepted, answered, asked, given_up, sent, told_in, unanswered, waiting_in}
+use Rattle.snmp_gate.specs.History.{Happening, IsCauseFor, IsMediated, IsAskWithin, accepted, answered, asked, given_up, sent, told_in, unanswered, waiting_in}
 use Rattle.snmp_gate.specs.Lawful.{AreLawful, IsLawful}
 use Rattle.snmp_gate.specs.Replies.{IsAnswerTo, SameAgent, answer_with}
 use Rattle.snmp_gate.specs.Runs.{Event, IsHistoryOf, IsRun, IsSealedBy, accepted_for, accepted_in, answered_in, answers_of, asked_in, client_comes, device_comes, ended_for, finds_no_memory, goes_out, moment_of, sealed_in, sealed_with, sent_in, taken_from, to_clients, to_devices}
@@ -38,11 +38,20 @@ mediated_same a b devices others before (accepted n now w m) same d is =
     (subst (λ users. Outcome (taker_of b) users (now / 1000) w (Ok m.kept)) same.users is)))
 mediated_same a b devices others before (asked n to id what w) same d is =
     subst (λ (ds : List Device). IsMediated a ds before (asked n to id what w)) d
-    (is.0, is.1, is.2, subst (λ (t : Tables). HoldsAt (λ (x : Device). IsAskFor t x is.0 (told_in n before) id what w) others to) same.tables is.3)
+    (is.0, is.1, is.2, subst (λ (t : Tables). HoldsAt (λ (x : Device). IsAskWithin t x is.0 (told_in n before) id what w) others to) same.tables is.3)
 mediated_same a b devices others before (answered n to p w) same d is = subst (λ (ds : List Device). IsMediated a ds before (answered n to p w)) d is
-mediated_same a b devices others before (sent n m by w) same d is =
-    (is.0, (is.1.0, is.1.1, λ q asks. subst (λ (t : Tables). IsAnswerTo by t q (told_in n before) is.1.0 m.kept w) same.tables (is.1.2 q asks)))
-mediated_same a b devices others before (unanswered n m) same d is = is
+mediated_same a b devices others before (sent n m by w) same d is = (
+  is.0,
+  (
+    is.1.0,
+    is.1.1,
+    λ q asks.
+        subst (λ (engine : List ℕ). IsAnswerTo by a.tables q (told_in n before) is.1.0 (IsCauseFor engine a.tables devices before n q) m.kept w) same.engine
+        (subst (λ (ds : List Device). IsAnswerTo by a.tables q (told_in n before) is.1.0 (IsCauseFor b.engine a.tables ds before n q) m.kept w) d
+        (subst (λ (t : Tables). IsAnswerTo by t q (told_in n before) is.1.0 (IsCauseFor b.engine t others before n q) m.kept w) same.tables (is.1.2 q asks))),
+  ),
+)
+mediated_same a b devices others before (unanswered n m by why) same d is = is
 mediated_same a b devices others before (given_up n to) same d is = subst (λ (ds : List Device). IsMediated a ds before (given_up n to)) d is
 
 lawful_same : (first old : Gate) (before : List Happening) (e : Happening) → Stays first old → IsLawful old.agent old.devices.list.items before e → IsLawful first.agent first.devices.list.items before e
@@ -71,8 +80,10 @@ keeps_more first last now history stays stands b =
     (subst (λ (l : GateLimits). AreBounded l last.requests) stays.limits bounded.requests) (subst (λ (d : Devices). AsksBounded d.list.items last.asks.items) stays.devices bounded.asks)
 
 -- the limits are the same
-allowed_first : (first middle : Gate) (before : List Happening) (e : Happening) → Stays first middle → IsAllowedBy middle.limits before e → IsAllowedBy first.limits before e
-allowed_first first middle before e stays allowed = subst (λ (l : GateLimits). IsAllowedBy l before e) stays.limits allowed
+allowed_first : (first middle : Gate) (before : List Happening) (e : Happening) → Stays first middle → IsAllowedBy middle.limits middle.devices.list.items before e → IsAllowedBy first.limits first.devices.list.items before e
+allowed_first first middle before e stays allowed =
+    subst (λ (l : GateLimits). IsAllowedBy l first.devices.list.items before e) stays.limits
+    (subst (λ (d : Devices). IsAllowedBy middle.limits d.list.items before e) stays.devices allowed)
 
 -- a history with what happens now
 happened : (first middle last : Gate) (now : ℕ) (e : Happening) (history : List Happening) (events : List Event) (event : Event) → Stays first middle → IsHistoryOf first events history → Happens middle now history e last
@@ -121,27 +132,27 @@ device_stands first middle last now number w device.Unreadable events known stay
 device_stands first middle last now number w device.NotWaitedFor events known stays happens = record { history = known.history; is = record { lawful = known.is.lawful; requests = known.is.requests; answers = known.is.answers; seals = known.is.seals; senders = known.is.senders; devices = known.is.devices; clients = known.is.clients }; stands = happens; stays = stays_on first middle last known.stays stays; keeps = known.keeps }
 
 send_stands : (first middle last : Gate) (now : ℕ) (f : Fresh) (what : Sent) (events : List Event) (known : RunStands first events middle) → Stays middle last → SendHappens middle now known.history f what last → RunStands first (goes_out now f what ∷ events) last
-send_stands first middle last now f (out.ToClient n to says w) events known stays happens =
+send_stands first middle last now f (out.ToClient n to says w ended) events known stays happens =
     let e = sent n happens.0 (record { agent = middle.agent; now = now / 1000; salt = f.salt }) (answer_with says w) in record {
       history = e ∷ known.history;
-      is = happened first middle last now e known.history events (goes_out now f (out.ToClient n to says w)) known.stays known.is happens.2 known.is.requests known.is.answers (λ i. (now / 1000, f.salt) ∷ known.is.seals i) known.stays.agent known.is.devices
+      is = happened first middle last now e known.history events (goes_out now f (out.ToClient n to says w ended)) known.stays known.is happens.2 known.is.requests known.is.answers (λ i. (now / 1000, f.salt) ∷ known.is.seals i) known.stays.agent known.is.devices
           (λ i. ((happens.1 i).items, answer_with says w) ∷ known.is.clients i);
       stands = happens.2.stands;
       stays = stays_on first middle last known.stays stays;
       keeps = λ b. (keeps_more first last now (e ∷ known.history) (stays_on first middle last known.stays stays) happens.2.stands b, allowed_first first middle known.history e known.stays happens.2.allowed, known.keeps b);
     }
-send_stands first middle last now f (out.ToDevice n to w) events known stays happens =
+send_stands first middle last now f (out.ToDevice n to w again) events known stays happens =
     let e = asked n to happens.0 happens.1 w.items in record {
       history = e ∷ known.history;
-      is = happened first middle last now e known.history events (goes_out now f (out.ToDevice n to w)) known.stays known.is happens.3 known.is.requests known.is.answers known.is.seals tt (λ i. (to, w.items) ∷ known.is.devices i) known.is.clients;
+      is = happened first middle last now e known.history events (goes_out now f (out.ToDevice n to w again)) known.stays known.is happens.3 known.is.requests known.is.answers known.is.seals tt (λ i. (to, w.items) ∷ known.is.devices i) known.is.clients;
       stands = happens.3.stands;
       stays = stays_on first middle last known.stays stays;
       keeps = λ b. (keeps_more first last now (e ∷ known.history) (stays_on first middle last known.stays stays) happens.3.stands b, allowed_first first middle known.history e known.stays happens.3.allowed, known.keeps b);
     }
-send_stands first middle last now f (out.Unanswered n why) events known stays happens =
-    let e = unanswered n happens.0 in record {
+send_stands first middle last now f (out.Unanswered n why ended) events known stays happens =
+    let e = unanswered n happens.0 (record { agent = middle.agent; now = now / 1000; salt = f.salt }) why in record {
       history = e ∷ known.history;
-      is = happened first middle last now e known.history events (goes_out now f (out.Unanswered n why)) known.stays known.is happens.1 known.is.requests known.is.answers known.is.seals tt known.is.devices known.is.clients;
+      is = happened first middle last now e known.history events (goes_out now f (out.Unanswered n why ended)) known.stays known.is happens.1 known.is.requests known.is.answers known.is.seals known.stays.agent known.is.devices known.is.clients;
       stands = happens.1.stands;
       stays = stays_on first middle last known.stays stays;
       keeps = λ b. (keeps_more first last now (e ∷ known.history) (stays_on first middle last known.stays stays) happens.1.stands b, allowed_first first middle known.history e known.stays happens.1.allowed, known.keeps b);
@@ -243,5 +254,5 @@ ended_in_turn agent devices n (accepted k now w m ∷ before) lawful = accepted_
 ended_in_turn agent devices n (asked k d id what w ∷ before) lawful = ended_in_turn agent devices n before lawful.1
 ended_in_turn agent devices n (answered k d p w ∷ before) lawful = ended_in_turn agent devices n before lawful.1
 ended_in_turn agent devices n (sent k m by w ∷ before) lawful = ended_turn n k m before lawful.0.in_turn.0 lawful.0.in_turn.1 (ended_in_turn agent devices n before lawful.1)
-ended_in_turn agent devices n (unanswered k m ∷ before) lawful = ended_turn n k m before lawful.0.in_turn.0 lawful.0.in_turn.1 (ended_in_turn agent devices n before lawful.1)
+ended_in_turn agent devices n (unanswered k m by why ∷ before) lawful = ended_turn n k m before lawful.0.in_turn.0 lawful.0.in_turn.1 (ended_in_turn agent devices n before lawful.1)
 ended_in_turn agent devices n (given_up k d ∷ before) lawful = ended_in_turn agent devices n before lawful.1

@@ -1,6 +1,6 @@
 -- Requests that stay what they were, where memory runs out.
 use Rattle.std.specs.Prelude.{◌≤◌, ◌-◌, ◌^◌, min, ◌≡◌, ◌<◌, ◌∷◌, ◌++◌, ℕ, zero, suc, List, [], All, Some, drop, length, map, slice_index_or, slice_set, take}
-use Rattle.std.specs.List.{flat_map}
+use Rattle.std.specs.List.{flat_map, HoldsAt}
 use Rattle.std.proofs.Common.{refl, sym, ap, arith, inl, inr, subst, ◌∙◌}
 use Rattle.std.proofs.lemmas.List.{length-append}
 use Rattle.std.proofs.Math.Seq.{map-set_same}
@@ -32,7 +32,7 @@ use Rattle.snmp_gate.specs.ReadAsks.{bulk_type, bulk_variables_asked, max_repeti
 use Rattle.snmp_gate.specs.Sending.{Requests}
 use Rattle.snmp_gate.specs.Taking.{AllWorkSaysSame, BulkSaysSame, OpenSaysSame, TaskSaysSame, WorkSaysSame}
 use Rattle.snmp_gate.specs.Waiting.{AllCameFrom, GroupStands, GroupsStand, OpenStands, WorkStands, messages_in}
-use Rattle.snmp_gate.specs.Work.{BulkStandsFor, IsAskedBy, TaskStands, request_of_task}
+use Rattle.snmp_gate.specs.Work.{BulkStandsFor, IsAskedBy, TaskStands, most_repetitions, request_of_task}
 use Rattle.snmp_gate.specs.declared.devices.Device.{Device}
 use Rattle.snmp_gate.specs.declared.requests.WaitingRequest.{WaitingRequest}
 use Rattle.snmp_gate.specs.declared.task.Task.{Task}
@@ -129,6 +129,7 @@ asked_by_same : (old new : BulkDialogue) (by : BulkAsk) → BulkSaysSame old new
 asked_by_same old new by same asked = record {
   ask = same.says.ask ∙ asked.ask;
   repetitions = asked.repetitions;
+  few = omega (arith, asked.few, same.says.limits.repetitions);
   columns = subst (λ (n : ℕ). IsAskOf n asked.repetitions new.columns.items by) (sym same.says.limits.non_repeaters) (ask_same old.non_repeaters asked.repetitions old.columns.items new.columns.items by same.says.columns asked.columns);
 }
 
@@ -167,10 +168,20 @@ work_set_same (Open old) (Open new) same set = task_set_same old.task.task new.t
 work_set_same (Open old) (Ends e) same set = absurd set
 work_set_same (Ends e) new same set = subst AsksSet same set
 
+-- it is asked for as many repetitions
+task_repeats_same : (old new : Task) → TaskSaysSame old new → most_repetitions new ≡ most_repetitions old
+task_repeats_same (task.Read o d) new same = ap most_repetitions same
+task_repeats_same task.Set new same = ap most_repetitions same
+task_repeats_same (task.Bulk by old) (task.Bulk other new) same = same.1.says.limits.repetitions
+task_repeats_same (task.Bulk by old) (task.Read o d) same = ap most_repetitions same
+task_repeats_same (task.Bulk by old) task.Set same = ap most_repetitions same
+
 open_stands_same : (tables : Tables) (devices : List Device) (before : List Happening) (n : ℕ) (q : Question) (old new : OpenRequest) → OpenSaysSame old new → OpenStands tables devices before n q old → OpenStands tables devices before n q new
 open_stands_same tables devices before n q old new same stands = record {
   task = task_stands_same tables q (told_in n before) old.task.task new.task.task same.task stands.task;
   device = subst (IsDeviceOf devices q.context) (sym same.device) stands.device;
+  repetitions = subst (λ (at : ℕ). HoldsAt (λ (d : Device). most_repetitions new.task.task ≤ d.repetitions) devices at) (sym same.device)
+      (λ d. let few = stands.repetitions d in omega (arith, few, task_repeats_same old.task.task new.task.task same.task));
   asked = λ id is. stands.asked id (sym same.asked ∙ is) ∙ (λ i. Some (record { device = sym same.device i; id = id; request = sym (task_asks_same q old.task.task new.task.task same.task) i }));
   set_once = λ set none. stands.set_once (task_set_same old.task.task new.task.task same.task set) (sym same.asked ∙ none);
   came = subst (λ (t : Timer). AllCameFrom before n t.began) (sym same.timer) stands.came;

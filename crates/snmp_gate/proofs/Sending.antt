@@ -26,6 +26,7 @@ use Rattle.snmp_gate.specs.declared.limits.GateLimits.{GateLimits}
 use Rattle.snmp_gate.specs.declared.reply.Reply.{Reply}
 use Rattle.snmp_gate.specs.declared.reply.Reply.TheVariants as reply
 use Rattle.snmp_gate.specs.declared.waiting_message.WaitingMessage.{WaitingMessage}
+use Rattle.snmp_gate.specs.declared.work.EndedBy.{EndedBy}
 
 -- a text that fits is one of the table
 pub within : (limit : ℕ) (table : Result (List ℕ) Refusal → Type 0) (text : List ℕ) → UpTo limit table (Ok text) → table (Ok text)
@@ -103,9 +104,9 @@ on_both (Ok x) P Q p q = (p, q)
 on_both (Err e) P Q p q = tt
 
 -- what is counted of what goes out is what is counted of what became of the message
-pub counts_sent : (old new : AgentState) (number : ℕ) (client : Vec ℕ) (r : Reply) (sent : Sent) → IsSentBy number client r sent → CountsReply old new r → CountsSent old new sent
-counts_sent old new number client (reply.Responds says datagram) sent is counts = subst (CountsSent old new) (sym is) counts
-counts_sent old new number client (reply.Reports datagram) sent is counts = subst (CountsSent old new) (sym is) counts
-counts_sent old new number client reply.Nothing sent is counts = subst (CountsSent old new) (sym is) (elim counts [ inl same ↦ inl same | inr more ↦ inr (inl more) ])
-counts_sent old new number client reply.SilentDrop sent is counts = subst (CountsSent old new) (sym is) (inr (inr counts))
-counts_sent old new number client (reply.Refused why) sent is counts = subst (CountsSent old new) (sym is) counts
+pub counts_sent : (old new : AgentState) (number : ℕ) (client : Vec ℕ) (ended : EndedBy) (r : Reply) (sent : Sent) → IsSentBy number client ended r sent → CountsReply old new r → CountsSent old new sent
+counts_sent old new number client ended (reply.Responds says datagram) sent is counts = subst (CountsSent old new) (sym is) counts
+counts_sent old new number client ended (reply.Reports datagram) sent is counts = subst (CountsSent old new) (sym is) counts
+counts_sent old new number client ended reply.Nothing sent is counts = subst (CountsSent old new) (sym is) (elim counts [ inl same ↦ inl same | inr more ↦ inr (inl more) ])
+counts_sent old new number client ended reply.SilentDrop sent is counts = subst (CountsSent old new) (sym is) (inr (inr counts))
+counts_sent old new number client ended (reply.Refused why) sent is counts = subst (CountsSent old new) (sym is) counts

@@ -16,14 +16,14 @@ use Rattle.gateway_laws.specs.Requests.{RequestPdu}
 use Rattle.snmp_gate.specs.Said.{Said}
 use Rattle.snmp_gate.specs.Groups.{Group, IsAnswered, IsAt, IsWorked, group_of, groups_of}
 use Rattle.snmp_gate.specs.History.{Happening, IsToldAgain, WasTold, accepted, answered, asked, given_up, open_ask, sent, told_in, unanswered}
-use Rattle.snmp_gate.specs.Limits.{IsShortFor, IsShortReplyFor}
+use Rattle.snmp_gate.specs.Limits.{IsShortFor, IsShortReplyFor, MayBeLeft}
 use Rattle.snmp_gate.specs.Lawful.{IsOnce, IsSetRequest, WasAsked}
 use Rattle.snmp_gate.specs.Messages.{question_in}
 use Rattle.snmp_gate.specs.Noting.{AsksSet, IsToldOf}
 use Rattle.snmp_gate.specs.Question.{Question}
-use Rattle.snmp_gate.specs.Sending.{IsAskedAt, IsOpenAt, IsSentBy, IsUnasked, RepliesTo, Requests, SetsAsked, again_in}
+use Rattle.snmp_gate.specs.Sending.{IsAskedAt, IsOpenAt, IsSentBy, IsUnasked, LeavesBy, RepliesTo, Requests, SetsAsked, again_in}
 use Rattle.snmp_gate.specs.Taking.{WorkSaysSame}
-use Rattle.snmp_gate.specs.Waiting.{AsksStand, Fresh, GateStands, GoesOut, GroupStands, GroupsStand, OpenStands, OutcomesStand, SendHappens, SetsStand, WorkStands, answering_at, asks_in}
+use Rattle.snmp_gate.specs.Waiting.{AsksStand, CausesStand, EndsByCause, Fresh, GateStands, GoesOut, GroupStands, GroupsStand, OpenStands, OutcomesStand, SendHappens, SetsStand, WorkStands, answering_at, asks_in}
 use Rattle.snmp_gate.specs.Work.{IsToldFirst, TaskStands, request_of_task}
 use Rattle.snmp_gate.specs.declared.asks.DeviceAsks.{DeviceAsks}
 use Rattle.snmp_gate.specs.declared.devices.Device.{Device}
@@ -31,6 +31,7 @@ use Rattle.snmp_gate.specs.declared.devices.Devices.{Devices}
 use Rattle.snmp_gate.specs.declared.gate.Gate.{Gate}
 use Rattle.snmp_gate.specs.declared.gate.Sent.{Sent}
 use Rattle.snmp_gate.specs.declared.gate.Sent.TheVariants as out
+use Rattle.snmp_gate.specs.declared.limits.GateLimits.{GateLimits}
 use Rattle.snmp_gate.specs.declared.named_task.NamedTask.{NamedTask}
 use Rattle.snmp_gate.specs.declared.reply.Reply.{Reply}
 use Rattle.snmp_gate.specs.declared.reply.Reply.TheVariants as reply
@@ -42,17 +43,20 @@ use Rattle.snmp_gate.specs.declared.task.Task.{Task}
 use Rattle.snmp_gate.specs.declared.task.Task.TheVariants as task
 use Rattle.snmp_gate.specs.declared.waiting_message.WaitingMessage.{WaitingMessage}
 use Rattle.snmp_gate.specs.declared.work.OpenRequest.{OpenRequest}
+use Rattle.snmp_gate.specs.declared.work.EndedBy.{EndedBy}
 use Rattle.snmp_gate.specs.declared.work.RequestEnd.{RequestEnd}
 use Rattle.snmp_gate.specs.declared.work.RequestEnd.TheVariants as ending
 use Rattle.snmp_gate.specs.declared.work.Work.{Work}
 use Rattle.snmp_gate.specs.declared.work.Work.TheVariants.{Open, Ends}
 use Rattle.snmp_gate.specs.Beginning.{MayBeJoined}
 use Rattle.snmp_gate.proofs.Asked.{none_is_some}
+use Rattle.snmp_gate.proofs.Causing.{causes_answered, causes_asked, causes_later, causes_moved, causes_same}
 use Rattle.snmp_gate.proofs.AsksKept.{asks_same}
 use Rattle.snmp_gate.proofs.Endings.{one_open}
 use Rattle.snmp_gate.proofs.GroupSteps.{group_at, groups_set}
 use Rattle.snmp_gate.specs.Replies.{answer_with, says_of}
-use Rattle.snmp_gate.proofs.Histories.{IsLeftAfter, IsReplyWith, first_of, group_in, moved, sent_all, unanswered_all}
+use Rattle.snmp_gate.proofs.Histories.{IsLeftAfter, IsReplyWith, by_its_cause, first_of, group_in, moved, sent_all, unanswered_all}
+use Rattle.snmp_gate.proofs.Leaving.{IsReplyWithout, left_allowed}
 use Rattle.snmp_gate.proofs.Others.{contains_cons, was_before, was_other}
 use Rattle.snmp_gate.proofs.Questions.{all_answered, all_worked, at_place}
 use Rattle.snmp_gate.proofs.Repeating.{WereAgain, again_answered, again_same, again_set, again_worked, from_kept, from_said, not_again, outcomes_kept, outcomes_other, sent_told}
@@ -97,10 +101,10 @@ answered_sets now then n device p v before rs place r s sets later within is num
     (set_were rs place r s within is number (λ set. absurd (no_set set))) (keeps_same then sets sets refl) stands
 
 -- a request whose work says the same
-pub kept_stands : (now : ℕ) (old new : Gate) (place : ℕ) (r : WaitingRequest WaitingMessage Work) (w : Work) → new.agent ≡ old.agent → new.devices ≡ old.devices → new.asks ≡ old.asks → new.sets ≡ old.sets → new.requests.next ≡ old.requests.next
+pub kept_stands : (now : ℕ) (old new : Gate) (place : ℕ) (r : WaitingRequest WaitingMessage Work) (w : Work) → new.limits ≡ old.limits → new.agent ≡ old.agent → new.devices ≡ old.devices → new.asks ≡ old.asks → new.sets ≡ old.sets → new.requests.next ≡ old.requests.next
     → new.requests.list.items ≡ slice_set old.requests.list.items place (record { number = r.number; first = r.first; others = r.others; work = w }) → place < length old.requests.list.items → r ≡ slice_index_or old.requests.list.items place r
     → WorkSaysSame r.work w → (since : ℕ) (before : List Happening) → since ≤ now → GateStands since before old → GateStands now before new
-kept_stands now old new place r w agent devices asks sets next items within is same since before later stands =
+kept_stands now old new place r w limits agent devices asks sets next items within is same since before later stands =
     let rs = old.requests.list.items in
     let s : WaitingRequest WaitingMessage Work = record { number = r.number; first = r.first; others = r.others; work = w } in
     let groups : groups_of new.requests.list.items ≡ groups_of (slice_set rs place s) = ap (λ (xs : Requests). groups_of xs) items in record {
@@ -115,6 +119,8 @@ kept_stands now old new place r w agent devices asks sets next items within is s
       outcomes = subst (λ (gs : Gs). OutcomesStand before gs new.sets.sets.items) (sym groups)
           (outcomes_kept before (groups_of rs) (groups_of (slice_set rs place s)) old.sets.sets.items new.sets.sets.items (from_kept before now old.sets.sets.items new.sets.sets.items (inl (ap (λ (x : RememberedSets). x.sets.items) sets)))
           (again_set rs place r s within is (again_same r.work w (groups_of rs) r.number (r.first ∷ r.others.items) same)) stands.outcomes);
+      causes = causes_moved old new before (groups_of (slice_set rs place s)) limits (ap (λ (a : AgentState). a.engine) agent) (ap (λ (a : AgentState). a.tables) agent) devices groups
+          (causes_same old.limits old.agent.engine old.agent.tables old.devices.list.items before rs place r w within is same stands.causes);
     }
 
 -- ---- a message that is answered
@@ -122,6 +128,17 @@ kept_stands now old new place r w agent devices asks sets next items within is s
 -- what is left of the groups, where a message was answered
 answered_were : (gs new : Gs) (place : ℕ) (m : WaitingMessage) → IsAnswered gs place m new → WereSets gs new
 answered_were gs new place m answer = all_answered (λ (g : Group WaitingMessage Work). AsksSet g.work → IsOpenSet gs g.number) gs new place m answer (λ g next rest were known. known) (were_sets gs)
+
+-- what is left of the causes
+causes_left : (old new : Gate) (before : List Happening) (e : Happening) (place : ℕ) (m : WaitingMessage) → IsLeftAfter old place m new → CausesStand before old → CausesStand (e ∷ before) new
+causes_left old new before e place m left stand =
+    let engine = old.agent.engine in
+    let limits = old.limits in
+    let tables = old.agent.tables in
+    let devices = old.devices.list.items in
+    let news = groups_of new.requests.list.items in
+    causes_moved old new (e ∷ before) news left.limits left.engine left.tables left.devices refl
+    (causes_later limits engine tables devices e before news (causes_answered limits engine tables devices before (groups_of old.requests.list.items) news place m left.answer stand))
 
 -- what is left of a gateway
 record LeavesIt (old : Gate) (since now : ℕ) (before : List Happening) (e : Happening) (m : WaitingMessage) (place : ℕ) (new : Gate) : Type 0 where
@@ -140,19 +157,22 @@ leaves old new since now before e m said place later same isnt was answer asks t
       (answered_were (groups_of old.requests.list.items) (groups_of new.requests.list.items) place m answer) (keeps_told now m said old.sets.sets.items new.sets.sets.items told) stands.sets;
 }
 
-pub unanswered_happens : (old new : Gate) (since now : ℕ) (before : List Happening) (place : ℕ) (f : Fresh) (r : WaitingRequest WaitingMessage Work) (m : WaitingMessage) (why : Option Refusal) → since ≤ now
-    → place < length old.requests.list.items → r ≡ slice_index_or old.requests.list.items place r → IsLeftAfter old place m new → new.asks ≡ old.asks → IsToldOf m None old.sets.sets.items new.sets.sets.items → GateStands since before old
-    → SendHappens old now before f (out.Unanswered r.number why) new
-unanswered_happens old new since now before place f r m why later within is left asks told stands =
-    let e = unanswered r.number m in
-    let ends = unanswered_all old new before place r m within is left stands.requests in
-    let rest = leaves old new since now before e m None place later (λ k. refl) (λ n at w x same. let wrong : unanswered r.number m ≡ accepted n at w x = same in cc)
-    (λ n. was_before e before n (λ d id what w same. let wrong : unanswered r.number m ≡ asked n d id what w = same in cc)) left.answer asks told (λ d says own is. absurd (none_is_some says is)) stands in (
+unanswered_happens : (old new : Gate) (since now : ℕ) (before : List Happening) (place : ℕ) (f : Fresh) (r : WaitingRequest WaitingMessage Work) (m : WaitingMessage) (replied : Reply) (why : Option Refusal) (ended : EndedBy) → since ≤ now
+    → place < length old.requests.list.items → r ≡ slice_index_or old.requests.list.items place r → IsLeftAfter old place m new → new.asks ≡ old.asks → IsToldOf m None old.sets.sets.items new.sets.sets.items → IsReplyWithout replied why
+    → LeavesBy old.limits old.agent (now / 1000) f.salt r.first r.work replied → GateStands since before old → SendHappens old now before f (out.Unanswered r.number why ended) new
+unanswered_happens old new since now before place f r m replied why ended later within is left asks told none leaves_it stands =
+    let by = answering_at old now f.salt in
+    let e = unanswered r.number m by why in
+    let ends = unanswered_all old new before place r m by why within is left stands.requests in
+    let first = first_of old new before place r m within is left stands.requests in
+    let rest = leaves old new since now before e m None place later (λ k. refl) (λ n at w x same. let wrong : unanswered r.number m by why ≡ accepted n at w x = same in cc)
+    (λ n. was_before e before n (λ d id what w same. let wrong : unanswered r.number m by why ≡ asked n d id what w = same in cc)) left.answer asks told (λ d says own is. absurd (none_is_some says is)) stands in (
       m,
       record {
         lawful = record { mediated = ends.mediated; in_turn = ends.in_turn; own_id = tt; once = tt };
-        allowed = tt;
-        stands = record { requests = ends.requests; asks = rest.asks; sets = rest.sets; outcomes = rest.outcomes };
+        allowed = λ q asked. subst (λ (x : WaitingMessage). MayBeLeft old.limits old.devices.list.items before r.number q x by why) first
+            (left_allowed old.limits old.devices.list.items before r.number q r.first old.agent (now / 1000) f.salt why r.work replied none leaves_it (by_its_cause old before place r q within is (ap question_in first ∙ asked) stands.causes));
+        stands = record { requests = ends.requests; asks = rest.asks; sets = rest.sets; outcomes = rest.outcomes; causes = causes_left old new before e place m left stands.causes };
       },
     )
 
@@ -163,6 +183,7 @@ may_tell old before place r m within is first stands (Ends (ending.Repeated says
     let there = at_contains (groups_of old.requests.list.items) place (group_of r) (group_at old.requests.list.items place r within is) in
     stands.again (group_of r) says m there ends (subst (Contains (r.first ∷ r.others.items)) first (Contains-append_left (r.first ∷ []) r.others.items r.first (Contains-push [] r.first)))
 may_tell old before place r m within is first stands (Ends (ending.Own says)) ends = tt
+may_tell old before place r m within is first stands (Ends (ending.RoundsUsedUp says)) ends = tt
 may_tell old before place r m within is first stands (Ends (ending.Columns whole)) ends = tt
 may_tell old before place r m within is first stands (Ends (ending.Front d)) ends = tt
 may_tell old before place r m within is first stands (Ends (ending.Unhandled why)) ends = tt
@@ -170,15 +191,15 @@ may_tell old before place r m within is first stands (Ends ending.Silent) ends =
 may_tell old before place r m within is first stands (Open o) ends = tt
 
 -- a client is sent this
-answer_happens : (old new : Gate) (since now : ℕ) (before : List Happening) (place : ℕ) (f : Fresh) (r : WaitingRequest WaitingMessage Work) (m : WaitingMessage) (client : Vec ℕ) (replied : Reply) (says : Option ResponseStatus) (datagram : Vec ℕ) → since ≤ now
+answer_happens : (old new : Gate) (since now : ℕ) (before : List Happening) (place : ℕ) (f : Fresh) (r : WaitingRequest WaitingMessage Work) (m : WaitingMessage) (client : Vec ℕ) (replied : Reply) (says : Option ResponseStatus) (datagram : Vec ℕ) (ended : EndedBy) → since ≤ now
     → place < length old.requests.list.items → r ≡ slice_index_or old.requests.list.items place r → IsLeftAfter old place m new → client ≡ m.client → IsReplyWith replied (answer_with says datagram)
     → ((q : Question) (told : Said) → question_in r.first ≡ Some q → RepliesTo old.agent (now / 1000) f.salt q told r.first.kept r.work replied)
-    → new.asks ≡ old.asks → IsToldOf m says old.sets.sets.items new.sets.sets.items → IsShortFor old.limits r.first datagram.items → GateStands since before old → SendHappens old now before f (out.ToClient r.number client says datagram) new
-answer_happens old new since now before place f r m client replied says datagram later within is left from with_this replies asks told short stands =
+    → new.asks ≡ old.asks → IsToldOf m says old.sets.sets.items new.sets.sets.items → IsShortFor old.limits r.first datagram.items → GateStands since before old → SendHappens old now before f (out.ToClient r.number client says datagram ended) new
+answer_happens old new since now before place f r m client replied says datagram ended later within is left from with_this replies asks told short stands =
     let by = answering_at old now f.salt in
     let answer = answer_with says datagram in
     let e = sent r.number m by answer in
-    let ends = sent_all old new before place (now / 1000) f.salt r m replied answer within is left with_this replies (may_tell old before place r m within is (first_of old new before place r m within is left stands.requests) stands.outcomes r.work refl) stands.requests in
+    let ends = sent_all old new before place (now / 1000) f.salt r m replied answer within is left with_this replies (may_tell old before place r m within is (first_of old new before place r m within is left stands.requests) stands.outcomes r.work refl) stands.requests stands.causes in
     let came = ends.mediated.0 in
     let rest = leaves old new since now before e m says place later (λ k. refl) (λ n at w x same. let wrong : sent r.number m by answer ≡ accepted n at w x = same in cc)
     (λ n. was_before e before n (λ d id what w same. let wrong : sent r.number m by answer ≡ asked n d id what w = same in cc)) left.answer asks told
@@ -188,26 +209,27 @@ answer_happens old new since now before place f r m client replied says datagram
       record {
         lawful = record { mediated = ends.mediated; in_turn = ends.in_turn; own_id = tt; once = tt };
         allowed = subst (λ (x : WaitingMessage). IsShortFor old.limits x datagram.items) (first_of old new before place r m within is left stands.requests) short;
-        stands = record { requests = ends.requests; asks = rest.asks; sets = rest.sets; outcomes = rest.outcomes };
+        stands = record { requests = ends.requests; asks = rest.asks; sets = rest.sets; outcomes = rest.outcomes; causes = causes_left old new before e place m left stands.causes };
       },
     )
 
-pub reply_happens : (old new : Gate) (since now : ℕ) (before : List Happening) (place : ℕ) (f : Fresh) (r : WaitingRequest WaitingMessage Work) (m : WaitingMessage) (client : Vec ℕ) (replied : Reply) (output : Sent) → since ≤ now
+pub reply_happens : (old new : Gate) (since now : ℕ) (before : List Happening) (place : ℕ) (f : Fresh) (r : WaitingRequest WaitingMessage Work) (m : WaitingMessage) (client : Vec ℕ) (ended : EndedBy) (replied : Reply) (output : Sent) → since ≤ now
     → place < length old.requests.list.items → r ≡ slice_index_or old.requests.list.items place r → IsLeftAfter old place m new → client ≡ m.client
     → ((q : Question) (told : Said) → question_in r.first ≡ Some q → RepliesTo old.agent (now / 1000) f.salt q told r.first.kept r.work replied)
-    → IsSentBy r.number client replied output → new.asks ≡ old.asks → IsToldOf m (says_of replied) old.sets.sets.items new.sets.sets.items → IsShortReplyFor old.limits r.first replied → GateStands since before old → SendHappens old now before f output new
-reply_happens old new since now before place f r m client (reply.Responds says datagram) output later within is left from replies sends asks told short stands =
+    → IsSentBy r.number client ended replied output → new.asks ≡ old.asks → IsToldOf m (says_of replied) old.sets.sets.items new.sets.sets.items
+    → LeavesBy old.limits old.agent (now / 1000) f.salt r.first r.work replied → IsShortReplyFor old.limits r.first replied → GateStands since before old → SendHappens old now before f output new
+reply_happens old new since now before place f r m client ended (reply.Responds says datagram) output later within is left from replies sends asks told leaves_it short stands =
     subst (λ (o : Sent). SendHappens old now before f o new) (sym sends)
-    (answer_happens old new since now before place f r m client (reply.Responds says datagram) (Some says) datagram later within is left from refl replies asks told short stands)
-reply_happens old new since now before place f r m client (reply.Reports datagram) output later within is left from replies sends asks told short stands =
+    (answer_happens old new since now before place f r m client (reply.Responds says datagram) (Some says) datagram ended later within is left from refl replies asks told short stands)
+reply_happens old new since now before place f r m client ended (reply.Reports datagram) output later within is left from replies sends asks told leaves_it short stands =
     subst (λ (o : Sent). SendHappens old now before f o new) (sym sends)
-    (answer_happens old new since now before place f r m client (reply.Reports datagram) None datagram later within is left from refl replies asks told short stands)
-reply_happens old new since now before place f r m client reply.Nothing output later within is left from replies sends asks told short stands =
-    subst (λ (o : Sent). SendHappens old now before f o new) (sym sends) (unanswered_happens old new since now before place f r m None later within is left asks told stands)
-reply_happens old new since now before place f r m client reply.SilentDrop output later within is left from replies sends asks told short stands =
-    subst (λ (o : Sent). SendHappens old now before f o new) (sym sends) (unanswered_happens old new since now before place f r m None later within is left asks told stands)
-reply_happens old new since now before place f r m client (reply.Refused why) output later within is left from replies sends asks told short stands =
-    subst (λ (o : Sent). SendHappens old now before f o new) (sym sends) (unanswered_happens old new since now before place f r m (Some why) later within is left asks told stands)
+    (answer_happens old new since now before place f r m client (reply.Reports datagram) None datagram ended later within is left from refl replies asks told short stands)
+reply_happens old new since now before place f r m client ended reply.Nothing output later within is left from replies sends asks told leaves_it short stands =
+    subst (λ (o : Sent). SendHappens old now before f o new) (sym sends) (unanswered_happens old new since now before place f r m reply.Nothing None ended later within is left asks told refl leaves_it stands)
+reply_happens old new since now before place f r m client ended reply.SilentDrop output later within is left from replies sends asks told leaves_it short stands =
+    subst (λ (o : Sent). SendHappens old now before f o new) (sym sends) (unanswered_happens old new since now before place f r m reply.SilentDrop None ended later within is left asks told refl leaves_it stands)
+reply_happens old new since now before place f r m client ended (reply.Refused why) output later within is left from replies sends asks told leaves_it short stands =
+    subst (λ (o : Sent). SendHappens old now before f o new) (sym sends) (unanswered_happens old new since now before place f r m (reply.Refused why) (Some why) ended later within is left asks told refl leaves_it stands)
 
 -- ---- a request that ends
 
@@ -242,7 +264,7 @@ answered_outcomes n device p v before rs place r s sets within is may stands =
 
 -- ---- an ask
 
-task_is_set : (tables : Tables) (q : Question) (told : Said) (t : Task) → TaskStands tables q told t → q.tag ≡ pdu_tag SetRequest → t ≡ task.Set
+pub task_is_set : (tables : Tables) (q : Question) (told : Said) (t : Task) → TaskStands tables q told t → q.tag ≡ pdu_tag SetRequest → t ≡ task.Set
 task_is_set tables q told (task.Read Get d) stands set = absurd (let tag : q.tag ≡ pdu_tag GetRequest = stands.tag in omega (arith, set, tag))
 task_is_set tables q told (task.Read GetNext d) stands set = absurd (let tag : q.tag ≡ pdu_tag GetNextRequest = stands.tag in omega (arith, set, tag))
 task_is_set tables q told (task.Bulk by d) stands set = absurd (omega (arith, set, stands.dialogue.tag))
@@ -352,3 +374,9 @@ module _ (tables : Tables) (devices : List Device) (before : List Happening) (ne
         subst (λ (n : ℕ). open_ask n before ≡ Some (record { device = device; id = i; request = request_of_task asked_group.question o.0.task.task })) is.0
             (here.asked i o.2 ∙ (λ j. Some (record { device = on j; id = i; request = request_of_task asked_group.question o.0.task.task }))),
       )
+
+  -- and what has no Response has its cause
+  pub asked_causes : (limits : GateLimits) (engine : List ℕ) → All (EndsByCause limits engine tables devices before) (groups_of rs) → All (EndsByCause limits engine tables devices (asked number device id what v ∷ before)) (groups_of new)
+  asked_causes limits engine stood =
+      let is = asked_open in
+      causes_asked limits engine tables devices (asked number device id what v) before rs new place id is.1.0 sets is.1.1 stood

@@ -1,7 +1,9 @@
 -- An answer without authentication is short.
-use Rattle.std.specs.Prelude.{◌≡◌, ◌*◌, ◌≤◌, ℕ, List, [], ◌∷◌, Contains, length, max}
+use Rattle.std.specs.Prelude.{◌≡◌, ◌*◌, ◌≤◌, ℕ, List, [], ◌∷◌, Contains, IfSome, None, Option, Some, length, max}
+use Rattle.std.specs.Global.{Vec}
 use Rattle.std.proofs.Common.{arith, inl, inr}
 use Rattle.snmp_agent.specs.Agent.{AgentState}
+use Rattle.snmp_agent.specs.Report.{IsShortReport}
 use Rattle.snmp_gate.specs.History.{Happening, accepted, sent}
 use Rattle.snmp_gate.specs.Lawful.{AreLawful}
 use Rattle.snmp_gate.specs.Limits.{AlwaysKeepsTo, MustBeShort}
@@ -34,3 +36,8 @@ short_answer agent devices limits before number message by answer lawful keeps m
     let size = size_of limits devices before number came.now came.datagram message keeps.2 came.there in
     let most = keeps.1.short must in
     (came.now, came.datagram, came.there, omega (arith, most, size))
+
+-- a report that each sender can take is short
+pub short_report : (report : Option (Vec ℕ)) (size : ℕ) → IsShortReport report → IfSome report (λ v. length v.items ≤ max SHORT_ANSWER (2 * size))
+short_report None size short = tt
+short_report (Some v) size short = omega (arith, short)

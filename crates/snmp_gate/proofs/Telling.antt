@@ -1,5 +1,5 @@
 -- What may be told of a request.
-use Rattle.std.specs.Prelude.{◌≡◌, ◌≢◌, ◌⊎◌, Bool, true, false, ◌∷◌, ℕ, ℤ, zero, suc, pos, List, [], All, Contains, map, take, drop, Option, Some, length}
+use Rattle.std.specs.Prelude.{◌≡◌, ◌≢◌, ◌⊎◌, Bool, true, false, ◌∷◌, ℕ, ℤ, zero, suc, pos, List, [], All, Contains, map, take, drop, None, Option, Some, length}
 use Rattle.std.specs.List.{AllZip}
 use Rattle.std.proofs.Common.{refl, inl, inr, sym, ap, subst, ◌∙◌, arith}
 use Rattle.std.proofs.lemmas.Bool.{false≢true}
@@ -35,7 +35,9 @@ use Rattle.snmp_gate.specs.Messages.{question_given, seen_in}
 use Rattle.snmp_gate.specs.Question.{Question}
 use Rattle.snmp_gate.specs.ReadAsks.{read_type}
 use Rattle.snmp_gate.specs.ReadErrors.{IsIndexAmong, IsReadError, gen_err, too_big as too_big_error}
-use Rattle.snmp_gate.specs.Replies.{Answering, IsFrontSentOr, IsOwnList, IsReportedOr, IsReplyTo, IsSentOr, MayTell, MayTellBulk, Told, columns, front, set, told_with, too_big, without_error}
+use Rattle.snmp_gate.specs.Replies.{Answering, IsFrontSentOr, IsOwnList, IsReportedOr, IsReplyTo, IsSentOr, MayTell, MayTellBulk, NoCause, Told, answer_with, columns, front, set, told_with, too_big, without_error}
+use Rattle.snmp_agent.specs.declared.unhandled.Unhandled.{Unhandled}
+use Rattle.snmp_gate.proofs.Whys.{answer_weaker}
 use Rattle.snmp_gate.specs.Said.{AreTrue, IsSetStatus, IsUnasked, Said}
 use Rattle.snmp_gate.specs.Work.{BulkStandsFor, IsOwnStatus}
 use Rattle.snmp_gate.specs.declared.reply.Reply.{Reply}
@@ -76,7 +78,7 @@ pub no_bulk : (q : Question) → q.tag ≡ pdu_tag GetBulkRequest → q.tag ≡ 
 no_bulk q tag is_set = omega (arith, is_set, tag)
 
 -- what is sent is what may be told, or tooBig
-pub sent_reply : (a : Answering) (tables : Tables) (q : Question) (said : Said) (again : Option ResponseStatus) (g : Given) (told : Told) (r : Reply) → MayTell tables q said again told → IsSentOr a g told r → IsReplyTo a tables q said again g r
+pub sent_reply : (a : Answering) (tables : Tables) (q : Question) (said : Said) (again : Option ResponseStatus) (g : Given) (told : Told) (r : Reply) → MayTell tables q said again told → IsSentOr a g told r → IsReplyTo a tables q said again NoCause g r
 sent_reply a tables q said again g told (reply.Responds says datagram) may (inl sent) = inl (told, sent, may)
 sent_reply a tables q said again g told (reply.Responds says datagram) may (inr sent) = inl (too_big, sent, may_tell_too_big tables q said again)
 sent_reply a tables q said again g told (reply.Reports datagram) may sent = absurd sent
@@ -85,7 +87,7 @@ sent_reply a tables q said again g told reply.SilentDrop may sent = tt
 sent_reply a tables q said again g told (reply.Refused why) may sent = tt
 
 pub own_reply : (a : Answering) (tables : Tables) (q : Question) (said : Said) (again : Option ResponseStatus) (g : Given) (says : ResponseStatus) (vs : List Variable) (r : Reply) → IsOwnStatus tables q said again says → IsOwnList q says.status vs
-    → IsSentOr a g (told_with says vs) r → IsReplyTo a tables q said again g r
+    → IsSentOr a g (told_with says vs) r → IsReplyTo a tables q said again NoCause g r
 own_reply a tables q said again g says vs r own list sent = sent_reply a tables q said again g (told_with says vs) r (may_tell_own tables q said again says vs own.no_error own.set own.read list) sent
 
 -- ---- a binding of each column
@@ -107,7 +109,7 @@ zip_shows Seen said o (c ∷ cs) (v ∷ vs) (b ∷ bs) same zip =
 
 pub columns_reply : (a : Answering) (tables : Tables) (q : Question) (said : Said) (again : Option ResponseStatus) (g : Given) (o : ReadOperation) (cs : List Column) (bs : List Binding) (r : Reply) → q.tag ≡ pdu_tag (read_type o)
     → map request cs ≡ requests_of o (variables_of q.list) → AllZip (Shows (seen_in tables q) said.variables) cs bs → AllZip IsShown cs bs
-    → ((device : Known) → IsDevice device → AreTrue device said → AllTrack device (seen_in tables q) cs) → IsSentOr a g (without_error (map variable_of bs)) r → IsReplyTo a tables q said again g r
+    → ((device : Known) → IsDevice device → AreTrue device said → AllTrack device (seen_in tables q) cs) → IsSentOr a g (without_error (map variable_of bs)) r → IsReplyTo a tables q said again NoCause g r
 columns_reply a tables q said again g o cs bs r tag same zip shown tracks sent =
     sent_reply a tables q said again g (without_error (map variable_of bs)) r (
       (λ is_set. absurd (no_read q o tag is_set), λ no_set error. absurd (error refl)),
@@ -163,7 +165,7 @@ tells_bulk Seen said vs n m cs v same stand shown =
     }
 
 pub front_reply : (a : Answering) (tables : Tables) (q : Question) (said : Said) (again : Option ResponseStatus) (g : Given) (d : BulkDialogue) (bs : List Binding) (r : Reply) → BulkStandsFor tables q said d
-    → All (IsShownOf (seen_in tables q) said.variables d.columns.items) (map variable_of bs) → IsFront d.non_repeaters d.max_repetitions d.columns.items (map variable_of bs) → IsFrontSentOr a g (map variable_of bs) r → IsReplyTo a tables q said again g r
+    → All (IsShownOf (seen_in tables q) said.variables d.columns.items) (map variable_of bs) → IsFront d.non_repeaters d.max_repetitions d.columns.items (map variable_of bs) → IsFrontSentOr a g (map variable_of bs) r → IsReplyTo a tables q said again NoCause g r
 front_reply a tables q said again g d bs (reply.Responds says datagram) stands all is_front (inl (n, sent)) =
     let names = column_names d.non_repeaters d.max_repetitions (variables_of q.list) d.columns.items stands.requests_are in
     let law = λ (device : Known) (plain : IsDevice device) (truly : AreTrue device said).
@@ -182,12 +184,20 @@ front_reply a tables q said again g d bs reply.Nothing stands all is_front sent 
 front_reply a tables q said again g d bs reply.SilentDrop stands all is_front sent = tt
 front_reply a tables q said again g d bs (reply.Refused why) stands all is_front sent = tt
 
-pub report_reply : (a : Answering) (tables : Tables) (q : Question) (said : Said) (again : Option ResponseStatus) (g : Given) (r : Reply) → IsReportedOr a g r → IsReplyTo a tables q said again g r
-report_reply a tables q said again g (reply.Responds says datagram) is = absurd is
-report_reply a tables q said again g (reply.Reports datagram) is = inr is
-report_reply a tables q said again g reply.Nothing is = tt
-report_reply a tables q said again g reply.SilentDrop is = tt
-report_reply a tables q said again g (reply.Refused why) is = tt
+pub report_reply : (a : Answering) (tables : Tables) (q : Question) (said : Said) (again : Option ResponseStatus) (Cause : Unhandled → Type 0) (g : Given) (why : Unhandled) (r : Reply) → Cause why → IsReportedOr a g why r → IsReplyTo a tables q said again Cause g r
+report_reply a tables q said again Cause g why (reply.Responds says datagram) cause is = absurd is
+report_reply a tables q said again Cause g why (reply.Reports datagram) cause is = inr (why, cause, is)
+report_reply a tables q said again Cause g why reply.Nothing cause is = tt
+report_reply a tables q said again Cause g why reply.SilentDrop cause is = tt
+report_reply a tables q said again Cause g why (reply.Refused refusal) cause is = tt
+
+-- a reply that is no report is one whatever causes there are
+pub no_report : (a : Answering) (tables : Tables) (q : Question) (said : Said) (again : Option ResponseStatus) (Cause : Unhandled → Type 0) (g : Given) (r : Reply) → IsReplyTo a tables q said again NoCause g r → IsReplyTo a tables q said again Cause g r
+no_report a tables q said again Cause g (reply.Responds says datagram) is = answer_weaker NoCause Cause a tables q said again g (answer_with (Some says) datagram) (λ why none. absurd none) is
+no_report a tables q said again Cause g (reply.Reports datagram) is = answer_weaker NoCause Cause a tables q said again g (answer_with None datagram) (λ why none. absurd none) is
+no_report a tables q said again Cause g reply.Nothing is = tt
+no_report a tables q said again Cause g reply.SilentDrop is = tt
+no_report a tables q said again Cause g (reply.Refused refusal) is = tt
 
 -- genErr may be told of any request for values
 pub gen_err_told : (tables : Tables) (q : Question) (said : Said) (again : Option ResponseStatus) (says : ResponseStatus) → says.status ≡ GEN_ERR → IsIndexAmong says.index (length (variables_of q.list)) → (q.tag ≡ pdu_tag SetRequest → ⊥)
@@ -197,10 +207,10 @@ gen_err_told tables q said again says is index read = record { read = λ no_set.
 pub unwritten : (tables : Tables) (q : Question) (said : Said) (again : Option ResponseStatus) → (q.tag ≡ pdu_tag SetRequest → ⊥) → IsOwnStatus tables q said again (record { status = pos 5; index = pos 0 })
 unwritten tables q said again read = gen_err_told tables q said again (record { status = pos 5; index = pos 0 }) refl (inl refl) read
 
-pub of_message : (a : Answering) (tables : Tables) (q : Question) (said : Said) (again : Option ResponseStatus) (g kept : Given) (client : List ℕ) (r : Reply) → g ≡ kept → (question_given client g ≡ Some q → IsReplyTo a tables q said again g r)
-    → question_given client kept ≡ Some q → IsReplyTo a tables q said again kept r
-of_message a tables q said again g kept client r same replies asked =
-    subst (λ (x : Given). IsReplyTo a tables q said again x r) same (replies (ap (question_given client) same ∙ asked))
+pub of_message : (a : Answering) (tables : Tables) (q : Question) (said : Said) (again : Option ResponseStatus) (Cause : Unhandled → Type 0) (g kept : Given) (client : List ℕ) (r : Reply) → g ≡ kept
+    → (question_given client g ≡ Some q → IsReplyTo a tables q said again Cause g r) → question_given client kept ≡ Some q → IsReplyTo a tables q said again Cause kept r
+of_message a tables q said again Cause g kept client r same replies asked =
+    subst (λ (x : Given). IsReplyTo a tables q said again Cause x r) same (replies (ap (question_given client) same ∙ asked))
 
 -- a Response may say what one said before
 pub repeated_status : (tables : Tables) (q : Question) (said : Said) (says : ResponseStatus) → (q.tag ≡ pdu_tag SetRequest) × IsUnasked said → IsOwnStatus tables q said (Some says) says

@@ -1,14 +1,17 @@
 -- How a request begins at a gateway.
 --
 -- `BeginsWell`: what is known of a request at first. `MaySetAll`: each variable of a SetRequest may be set.
--- `MayBeJoined`: a message may join a request. `IsKnownEnd`: what is known of a Set that came before. `TakenIn`: what a
--- gateway is behind a message.
-use Rattle.std.specs.Prelude.{◌≡◌, ⊤, ℕ, List, ◌∷◌, All, None, Option, Some, length}
+-- `EndsAt`: why it ends without a Response. `MayBeJoined`: a message may join a request. `IsKnownEnd`: what is known of
+-- a Set that came before. `TakenIn`: what a gateway is behind a message.
+use Rattle.std.specs.Prelude.{◌≡◌, ◌≤◌, ⊤, ℕ, List, ◌∷◌, All, IfSome, None, Option, Some, length}
+use Rattle.std.specs.List.{HoldsAt}
 use Rattle.sha2.specs.Sha256.{sha256}
 use Rattle.snmp_msg.specs.PduTypes.{pdu_tag}
 use Rattle.snmp_msg.specs.Variables.{Variable, variables_of}
 use Rattle.snmp_msg.specs.declared.pdu_type.PduType.TheVariants.{SetRequest}
 use Rattle.vacm_core.specs.Tables.{Tables}
+use Rattle.snmp_agent.specs.declared.unhandled.Unhandled.{Unhandled}
+use Rattle.snmp_gate.specs.Causes.{EndsFor, IsUnhandledBy}
 use Rattle.snmp_gate.specs.Devices.{IsDeviceOf}
 use Rattle.snmp_gate.specs.History.{Happening, accepted}
 use Rattle.snmp_gate.specs.Lawful.{IsInTurn}
@@ -17,7 +20,7 @@ use Rattle.snmp_gate.specs.Question.{Question}
 use Rattle.snmp_gate.specs.Said.{IsUnasked, Said}
 use Rattle.snmp_gate.specs.Sets.{HasDigest, lasting}
 use Rattle.snmp_gate.specs.Waiting.{GateStands}
-use Rattle.snmp_gate.specs.Work.{EndingStands, IsToldFirst, TaskStands}
+use Rattle.snmp_gate.specs.Work.{EndingStands, IsToldFirst, TaskStands, most_repetitions}
 use Rattle.snmp_gate.specs.declared.devices.Device.{Device}
 use Rattle.snmp_gate.specs.declared.gate.ClientTaken.{ClientTaken}
 use Rattle.snmp_gate.specs.declared.gate.ClientTaken.TheVariants as client
@@ -33,10 +36,12 @@ use Rattle.snmp_gate.specs.declared.work.RequestEnd.TheVariants as ending
 use Rattle.snmp_gate.specs.declared.work.Work.{Work}
 use Rattle.snmp_gate.specs.declared.work.Work.TheVariants.{Open, Ends}
 
--- whatever was told, where its device wasn't asked: the device of its context is to be asked, or it ends
+-- whatever was told, where its device wasn't asked: the device of its context is to be asked, for no more repetitions
+-- than it is configured for, or it ends
 abbrev pub BeginsWell : Tables → List Device → Question → Work → Type 0
 BeginsWell tables devices q (Open o) = ((told : Said) → IsUnasked told → TaskStands tables q told o.task.task)
     × IsDeviceOf devices q.context o.device × (o.asked ≡ None)
+    × HoldsAt (λ (d : Device). most_repetitions o.task.task ≤ d.repetitions) devices o.device
 BeginsWell tables devices q (Ends e) = (told : Said) → IsUnasked told → EndingStands tables q told e
 
 abbrev pub MaySetAll : Tables → Question → Type 0
@@ -73,6 +78,15 @@ IsKnownBegin now digest sets begins.Unknown = ⊤
 abbrev pub IsKnownWork : ℕ → Option (List ℕ) → List RememberedSet → Work → Type 0
 IsKnownWork now digest sets (Open o) = ⊤
 IsKnownWork now digest sets (Ends e) = IsKnownEnd now digest sets e
+
+-- no application answers what the message asks, if there is a cause
+abbrev pub AreUnhandledBy : Gate → WaitingMessage → Option Unhandled → Type 0
+AreUnhandledBy g m unhandled = (q : Question) → question_in m ≡ Some q
+    → IfSome unhandled (IsUnhandledBy g.agent.engine g.agent.tables g.devices.list.items q)
+
+-- at this gateway it ends without a Response only if no application answers what is asked
+abbrev pub EndsAt : Gate → Question → RequestEnd → Type 0
+EndsAt g q e = EndsFor g.agent.engine g.agent.tables g.devices.list.items q e
 
 -- the request goes on, or ends by what wasn't told before
 abbrev pub IsFirstOnward : Onward → Type 0

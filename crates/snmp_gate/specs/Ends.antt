@@ -2,7 +2,7 @@
 --
 -- `IsFailing`: a status with an error. `FailsOrGoesOn`: the answer has an error, or the request goes on. `IsEndFor`: an
 -- answer without an error ends only a SetRequest, and none is unfit for one. `ErrsSo`: why an answer ends a request for
--- values. `EndsSet`: an answer ends a SetRequest by what it says.
+-- values. `EndsSet`: an answer ends a SetRequest by what it says. `EndsIfSet`: it ends a SetRequest.
 use Rattle.std.specs.Prelude.{◌≡◌, ◌≢◌, ⊤, ℕ, None, pos}
 use Rattle.snmp_msg.specs.PduTypes.{pdu_tag}
 use Rattle.snmp_msg.specs.declared.pdu.Pdu.{Pdu}
@@ -19,6 +19,8 @@ use Rattle.snmp_gate.specs.declared.onward.AnswerTaken.{AnswerTaken}
 use Rattle.snmp_gate.specs.declared.onward.AnswerTaken.TheVariants as taken
 use Rattle.snmp_gate.specs.declared.onward.AnswerTaken.TheVariants.{Ends}
 use Rattle.snmp_gate.specs.declared.set_answer.ResponseStatus.{ResponseStatus}
+use Rattle.snmp_gate.specs.declared.task.Task.{Task}
+use Rattle.snmp_gate.specs.declared.task.Task.TheVariants as task
 use Rattle.snmp_gate.specs.declared.set_answer.TheConstants.{GEN_ERR, NO_ERROR, NO_SUCH_NAME, TOO_BIG}
 
 abbrev pub IsFailing : ResponseStatus → Type 0
@@ -47,6 +49,10 @@ pub record IsOutcomeOf (answer : Pdu) (says : ResponseStatus) : Type 0 where
 abbrev pub EndsSet : Pdu → AnswerTaken → Type 0
 EndsSet answer (Ends says) = IsOutcomeOf answer says
 EndsSet answer _ = ⊥
+
+-- an answer to a SetRequest ends it
+abbrev pub EndsIfSet : Task → AnswerTaken → Type 0
+EndsIfSet t answer = t ≡ task.Set → (says : ResponseStatus) × (answer ≡ Ends says)
 
 -- what a Response says of an error of the device
 abbrev pub IsStatusOfFailure : FailureStatus → ℕ → ResponseStatus → Type 0

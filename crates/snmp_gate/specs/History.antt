@@ -3,14 +3,17 @@
 -- A history is a list of what happened, the latest first. `waiting_in`: the messages that wait for their answers.
 -- `told_in`: what devices told for a request. `open_ask`: what a device was asked for it, and didn't answer.
 -- `IsMediated`: the laws, of what happens after a history. `IsAccepted`: a message was accepted. `MayAskFor`: the law
--- inwards, what a device may be asked. `IsAnswerOf`: whose answer it is. `IsAnswerTo` has the law outwards.
--- `IsToldAgain`: what the Response to a Set says was told of its datagram before. Moments are milliseconds.
+-- inwards, what a device may be asked, which `IsAskWithin` has with its limits. `IsAnswerOf`: whose answer it is.
+-- `IsAnswerTo` has the law outwards.
+-- `IsToldAgain`: what the Response to a Set says was told of its datagram before. `IsCauseFor`: why a request has no
+-- Response. Moments are milliseconds.
 use Rattle.std.specs.Prelude.{◌≡◌, ◌≢◌, ◌⊎◌, ◌+◌, ◌/◌, ◌≤◌, ℕ, pos, cond, nat_eq, All, Contains, Option, Some, None}
 use Rattle.std.specs.Prelude.{IfSome, length, map, Ok}
 use Rattle.std.specs.Prelude.{List, [], ◌∷◌, ◌++◌, drop}
 use Rattle.std.specs.Global.{Vec}
 use Rattle.std.specs.List.{HoldsAt}
 use Rattle.sha2.specs.Sha256.{sha256}
+use Rattle.snmp_message.specs.declared.refusal.Refusal.{Refusal}
 use Rattle.snmp_msg.specs.Pdu.{PduParts}
 use Rattle.snmp_msg.specs.PduTypes.{pdu_tag}
 use Rattle.snmp_msg.specs.Variables.{Variable, variables_of}
@@ -18,10 +21,13 @@ use Rattle.snmp_msg.specs.declared.pdu_type.PduType.TheVariants.{GetBulkRequest,
 use Rattle.vacm_core.specs.Tables.{Tables}
 use Rattle.snmp_incoming.specs.Outcome.{Outcome}
 use Rattle.snmp_agent.specs.Agent.{AgentState, taker_of}
+use Rattle.snmp_agent.specs.declared.unhandled.Unhandled.{Unhandled}
+use Rattle.snmp_agent.specs.declared.unhandled.Unhandled.TheVariants.{UnavailableContexts}
 use Rattle.snmp_walk.specs.Column.{MayAsk}
 use Rattle.snmp_walk.specs.declared.operation.ReadOperation.{ReadOperation}
 use Rattle.snmp_walk.specs.declared.operation.ReadOperation.TheVariants.{GetNext}
 use Rattle.gateway_laws.specs.Requests.{RequestPdu}
+use Rattle.snmp_gate.specs.Causes.{IsUnhandledBy}
 use Rattle.snmp_gate.specs.DeviceMessages.{IsDeviceAnswer, IsRequestFor}
 use Rattle.snmp_gate.specs.Devices.{IsDeviceOf}
 use Rattle.snmp_gate.specs.Messages.{question_in, seen_in, set_in}
@@ -44,8 +50,8 @@ pub data Happening : Type 0 where
   answered : (number device : ℕ) (answer : PduParts) (datagram : List ℕ) → Happening
   -- a client is sent the answer to a message that asks the request of this number
   sent : (number : ℕ) (message : WaitingMessage) (by : Answering) (answer : ClientAnswer) → Happening
-  -- such a message isn't answered
-  unanswered : (number : ℕ) (message : WaitingMessage) → Happening
+  -- such a message isn't answered; the reason is a refusal, if nothing can be sealed for its user
+  unanswered : (number : ℕ) (message : WaitingMessage) (by : Answering) (why : Option Refusal) → Happening
   -- the device didn't answer in time: the request of this number is given up
   given_up : (number device : ℕ) → Happening
 
@@ -55,7 +61,7 @@ number_of (accepted number now datagram message) = number
 number_of (asked number device id request datagram) = number
 number_of (answered number device answer datagram) = number
 number_of (sent number message by answer) = number
-number_of (unanswered number message) = number
+number_of (unanswered number message by why) = number
 number_of (given_up number device) = number
 
 -- the messages that ask the request of this number and wait for their answers, in the order in which they came
@@ -67,7 +73,7 @@ waiting_in n (asked number device id request datagram ∷ before) = waiting_in n
 waiting_in n (answered number device answer datagram ∷ before) = waiting_in n before
 waiting_in n (sent number message by answer ∷ before) =
     cond (nat_eq n number) (drop 1 (waiting_in n before)) (waiting_in n before)
-waiting_in n (unanswered number message ∷ before) =
+waiting_in n (unanswered number message by why ∷ before) =
     cond (nat_eq n number) (drop 1 (waiting_in n before)) (waiting_in n before)
 waiting_in n (given_up number device ∷ before) = waiting_in n before
 
@@ -85,7 +91,7 @@ open_ask n (asked number device id request datagram ∷ before) =
     cond (nat_eq n number) (Some (record { device = device; id = id; request = request })) (open_ask n before)
 open_ask n (answered number device answer datagram ∷ before) = cond (nat_eq n number) None (open_ask n before)
 open_ask n (sent number message by answer ∷ before) = open_ask n before
-open_ask n (unanswered number message ∷ before) = open_ask n before
+open_ask n (unanswered number message by why ∷ before) = open_ask n before
 open_ask n (given_up number device ∷ before) = cond (nat_eq n number) None (open_ask n before)
 
 -- what an answer says of each name that was asked, if it says noSuchName: that there is none after it
@@ -124,7 +130,7 @@ told_in n (asked number device id request datagram ∷ before) =
 told_in n (answered number device answer datagram ∷ before) =
     cond (nat_eq n number) (more_said (open_ask n before) answer (told_in n before)) (told_in n before)
 told_in n (sent number message by answer ∷ before) = told_in n before
-told_in n (unanswered number message ∷ before) = told_in n before
+told_in n (unanswered number message by why ∷ before) = told_in n before
 told_in n (given_up number device ∷ before) = told_in n before
 
 -- ---- the laws
@@ -171,6 +177,11 @@ pub data MayAskFor (tables : Tables) (d : Device) (q : Question) (told : Said) (
 abbrev pub IsAskFor : Tables → Device → Question → Said → ℕ → RequestPdu → List ℕ → Type 0
 IsAskFor tables d q told id request datagram =
     MayAskFor tables d q told id request datagram × (length datagram ≤ d.max_size)
+
+-- and for no more repetitions than it is configured for (RFC 3416, section 4.2.3)
+abbrev pub IsAskWithin : Tables → Device → Question → Said → ℕ → RequestPdu → List ℕ → Type 0
+IsAskWithin tables d q told id request datagram =
+    IsAskFor tables d q told id request datagram × (request.max_repetitions ≤ d.repetitions)
 
 -- the community by which a device is asked by a request of this type
 abbrev pub IsCommunityFor : Device → ℕ → List ℕ → Type 0
@@ -225,19 +236,30 @@ pub record IsToldAgain (before : List Happening) (number : ℕ) (message : Waiti
   pub soon : now ≤ first + REMEMBERED
   pub told : WasTold before (sha256 datagram) says
 
+-- the request of this number was given up: its device didn't answer in time
+abbrev pub WasGivenUp : List Happening → ℕ → Type 0
+WasGivenUp before n = (device : ℕ) × Contains before (given_up n device)
+
+-- why a request has no Response: no application answers what it asks; or its context is unavailable, since it was given
+-- up, and asks no Set
+abbrev pub IsCauseFor : List ℕ → Tables → List Device → List Happening → ℕ → Question → Unhandled → Type 0
+IsCauseFor engine tables devices before n q why = IsUnhandledBy engine tables devices q why
+    ⊎ ((why ≡ UnavailableContexts) × WasGivenUp before n × (q.tag ≢ pdu_tag SetRequest))
+
 -- the law of complete mediation: the agent, the devices, what happened before, and what happens
 abbrev pub IsMediated : AgentState → List Device → List Happening → Happening → Type 0
 IsMediated agent devices before (accepted number now datagram message) =
     Outcome (taker_of agent) agent.users (now / 1000) datagram (Ok message.kept)
 IsMediated agent devices before (asked number device id request datagram) = (q : Question) × AskedBy before number q
     × IsDeviceOf devices q.context device
-    × HoldsAt (λ (d : Device). IsAskFor agent.tables d q (told_in number before) id request datagram) devices device
+    × HoldsAt (λ (d : Device). IsAskWithin agent.tables d q (told_in number before) id request datagram) devices device
 IsMediated agent devices before (answered number device answer datagram) =
     IsAnswerOf devices before number device answer datagram
 IsMediated agent devices before (sent number message by answer) = IsAccepted before number message
     × ((again : Option ResponseStatus) × IfSome again (IsToldAgain before number message)
     × ((q : Question) → question_in message ≡ Some q
-    → IsAnswerTo by agent.tables q (told_in number before) again message.kept answer))
-IsMediated agent devices before (unanswered number message) = IsAccepted before number message
+    → IsAnswerTo by agent.tables q (told_in number before) again
+    (IsCauseFor agent.engine agent.tables devices before number q) message.kept answer))
+IsMediated agent devices before (unanswered number message by why) = IsAccepted before number message
 IsMediated agent devices before (given_up number device) = (q : Question) × AskedBy before number q
     × IsDeviceOf devices q.context device

@@ -27,7 +27,7 @@ abbrev pub IsInTurn : List Happening → Happening → Type 0
 IsInTurn before (accepted number now datagram message) =
     All (λ (m : WaitingMessage). question_in m ≡ question_in message) (waiting_in number before)
 IsInTurn before (sent number message by answer) = IsNext before number message
-IsInTurn before (unanswered number message) = IsNext before number message
+IsInTurn before (unanswered number message by why) = IsNext before number message
 IsInTurn before _ = ⊤
 
 -- ---- request-ids

@@ -14,6 +14,7 @@ pub mod Devices
 pub mod Messages
 pub mod Named
 pub mod Said
+pub mod Causes
 pub mod Work
 pub mod Ends
 pub mod Replies
@@ -25,6 +26,7 @@ pub mod RequestTags
 pub mod Fits
 pub mod Hidden
 pub mod Waiting
+pub mod Told
 pub mod Sending
 pub mod Beginning
 pub mod SetBegins
@@ -36,3 +38,5 @@ pub mod Counting
 pub mod Limits
 pub mod Untaken
 pub mod ReadErrors
+pub mod SetRoom
+pub mod Unanswered

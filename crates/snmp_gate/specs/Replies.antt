@@ -18,6 +18,7 @@ use Rattle.snmp_agent.specs.Agent.{AgentState}
 use Rattle.snmp_agent.specs.Dispatch.{Refuses}
 use Rattle.snmp_agent.specs.Responses.{responding}
 use Rattle.snmp_agent.specs.Sent.{Sends}
+use Rattle.snmp_agent.specs.declared.response.Response.{Response}
 use Rattle.snmp_agent.specs.declared.unhandled.Unhandled.{Unhandled}
 use Rattle.snmp_responder.specs.Instrumentation.{Known}
 use Rattle.snmp_walk.specs.BulkColumn.{Ascends, IsGiven, last_name}
@@ -61,10 +62,10 @@ IsSent a g told datagram = (c : Contexts) (p : PduParts) → ScopedFront g.text 
     → Sends a.agent a.now (λ own. responding a.agent.engine own g c p told.status told.index told.variables a.salt)
     (Ok datagram)
 
--- the datagram is a report on the message
-abbrev pub IsReported : Answering → Given → List ℕ → Type 0
-IsReported a g datagram = (c : Contexts) (p : PduParts) → ScopedFront g.text c → PduText c.pdu p
-    → (why : Unhandled) × (after : AgentState) × Refuses a.agent a.now g p why a.salt (Ok (Some datagram)) after
+-- the datagram is the report on the message for this cause, with its counter
+abbrev pub IsReported : Answering → Given → Unhandled → List ℕ → Type 0
+IsReported a g why datagram = (c : Contexts) (p : PduParts) → ScopedFront g.text c → PduText c.pdu p
+    → (after : AgentState) × Refuses a.agent a.now g p why a.salt (Ok (Some datagram)) after
 
 -- what a client is sent; and what is said of it: the error-status and the error-index of a Response, or nothing
 pub record ClientAnswer : Type 0 where
@@ -78,9 +79,9 @@ status_in told = record { status = told.status; index = told.index }
 abbrev pub IsResponse : Answering → Given → Told → ClientAnswer → Type 0
 IsResponse a g told answer = IsSent a g told answer.datagram × (answer.says ≡ Some (status_in told))
 
--- it is a report on the message, of which nothing is said
-abbrev pub IsReport : Answering → Given → ClientAnswer → Type 0
-IsReport a g answer = IsReported a g answer.datagram × (answer.says ≡ None)
+-- it is the report on the message for this cause, of which nothing is said
+abbrev pub IsReport : Answering → Given → Unhandled → ClientAnswer → Type 0
+IsReport a g why answer = IsReported a g why answer.datagram × (answer.says ≡ None)
 
 abbrev pub answer_with : Option ResponseStatus → Vec ℕ → ClientAnswer
 answer_with says datagram = record { says = says; datagram = datagram.items }
@@ -128,11 +129,12 @@ MayTell tables q said again told = ((q.tag ≡ pdu_tag SetRequest → IsSetStatu
     ⊎ (((told.status ≢ NO_ERROR) × (told.variables ≡ variables_of q.list))
     ⊎ ((told.status ≡ TOO_BIG) × (told.variables ≡ []))))
 
--- it is a Response that may be sent, or a report; of a Set the Response may say this again
-abbrev pub IsAnswerTo : Answering → Tables → Question → Said → Option ResponseStatus → Given → ClientAnswer → Type 0
-IsAnswerTo a tables q said again g answer =
+-- it is a Response that may be sent, or the report for a cause of these; of a Set the Response may say this again
+abbrev pub IsAnswerTo : Answering → Tables → Question → Said → Option ResponseStatus → (Unhandled → Type 0)
+    → Given → ClientAnswer → Type 0
+IsAnswerTo a tables q said again Cause g answer =
     ((told : Told) × IsResponse a g told answer × MayTell tables q said again told)
-    ⊎ IsReport a g answer
+    ⊎ ((why : Unhandled) × Cause why × IsReport a g why answer)
 
 -- of a request's own bindings: none with tooBig
 abbrev pub IsOwnList : Question → ℤ → List Variable → Type 0
@@ -143,6 +145,10 @@ answering agent s = record { agent = agent; now = s.seconds; salt = s.salt }
 
 abbrev pub told_with : ResponseStatus → List Variable → Told
 told_with says vs = record { status = says.status; index = says.index; variables = vs }
+
+-- what a Response says so besides its bindings
+abbrev pub response_with : ResponseStatus → Sealing → Response
+response_with says s = record { status = says.status; index = says.index; salt = s.salt; limit = s.limit }
 
 abbrev pub without_error : List Variable → Told
 without_error vs = record { status = NO_ERROR; index = pos 0; variables = vs }
@@ -167,18 +173,23 @@ IsFrontSentOr a g vs (reply.Responds says datagram) =
 IsFrontSentOr a g vs (reply.Reports datagram) = ⊥
 IsFrontSentOr a g vs _ = ⊤
 
-abbrev pub IsReportedOr : Answering → Given → Reply → Type 0
-IsReportedOr a g (reply.Responds says datagram) = ⊥
-IsReportedOr a g (reply.Reports datagram) = IsReport a g (answer_with None datagram)
-IsReportedOr a g _ = ⊤
+abbrev pub IsReportedOr : Answering → Given → Unhandled → Reply → Type 0
+IsReportedOr a g why (reply.Responds says datagram) = ⊥
+IsReportedOr a g why (reply.Reports datagram) = IsReport a g why (answer_with None datagram)
+IsReportedOr a g why _ = ⊤
 
 -- what becomes of the message
-abbrev pub IsReplyTo : Answering → Tables → Question → Said → Option ResponseStatus → Given → Reply → Type 0
-IsReplyTo a tables q said again g (reply.Responds says datagram) =
-    IsAnswerTo a tables q said again g (answer_with (Some says) datagram)
-IsReplyTo a tables q said again g (reply.Reports datagram) =
-    IsAnswerTo a tables q said again g (answer_with None datagram)
-IsReplyTo a tables q said again g _ = ⊤
+abbrev pub IsReplyTo : Answering → Tables → Question → Said → Option ResponseStatus → (Unhandled → Type 0)
+    → Given → Reply → Type 0
+IsReplyTo a tables q said again Cause g (reply.Responds says datagram) =
+    IsAnswerTo a tables q said again Cause g (answer_with (Some says) datagram)
+IsReplyTo a tables q said again Cause g (reply.Reports datagram) =
+    IsAnswerTo a tables q said again Cause g (answer_with None datagram)
+IsReplyTo a tables q said again Cause g _ = ⊤
+
+-- it has no report
+abbrev pub NoCause : Unhandled → Type 0
+NoCause why = ⊥
 
 -- which error-status and error-index it says, if it is a Response
 abbrev pub says_of : Reply → Option ResponseStatus

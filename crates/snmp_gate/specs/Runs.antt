@@ -100,11 +100,11 @@ answers_of (finds_no_memory now ∷ before) = answers_of before
 
 -- to a device, by its number, or to a client, by its address
 abbrev pub sent_to_device : Sent → List (ℕ × List ℕ)
-sent_to_device (ToDevice number device datagram) = (device, datagram.items) ∷ []
+sent_to_device (ToDevice number device datagram again) = (device, datagram.items) ∷ []
 sent_to_device _ = []
 
 abbrev pub sent_to_client : Sent → List (List ℕ × ClientAnswer)
-sent_to_client (ToClient number client says datagram) = (client.items, answer_with says datagram) ∷ []
+sent_to_client (ToClient number client says datagram ended) = (client.items, answer_with says datagram) ∷ []
 sent_to_client _ = []
 
 abbrev pub to_devices : List Event → List (ℕ × List ℕ)
@@ -123,7 +123,7 @@ to_clients (finds_no_memory now ∷ before) = to_clients before
 
 -- the moments, in seconds, and the salts of what went out to clients
 abbrev pub sealed_by : ℕ → Fresh → Sent → List (ℕ × List ℕ)
-sealed_by now f (ToClient number client says datagram) = (now / 1000, f.salt) ∷ []
+sealed_by now f (ToClient number client says datagram ended) = (now / 1000, f.salt) ∷ []
 sealed_by now f _ = []
 
 abbrev pub sealed_with : List Event → List (ℕ × List ℕ)
@@ -141,7 +141,7 @@ accepted_in (accepted number now datagram message ∷ before) =
 accepted_in (asked number device id request datagram ∷ before) = accepted_in before
 accepted_in (answered number device answer datagram ∷ before) = accepted_in before
 accepted_in (sent number message by answer ∷ before) = accepted_in before
-accepted_in (unanswered number message ∷ before) = accepted_in before
+accepted_in (unanswered number message by why ∷ before) = accepted_in before
 accepted_in (given_up number device ∷ before) = accepted_in before
 
 abbrev pub answered_in : List Happening → List (ℕ × List ℕ)
@@ -150,7 +150,7 @@ answered_in (answered number device answer datagram ∷ before) = (device, datag
 answered_in (accepted number now datagram message ∷ before) = answered_in before
 answered_in (asked number device id request datagram ∷ before) = answered_in before
 answered_in (sent number message by answer ∷ before) = answered_in before
-answered_in (unanswered number message ∷ before) = answered_in before
+answered_in (unanswered number message by why ∷ before) = answered_in before
 answered_in (given_up number device ∷ before) = answered_in before
 
 abbrev pub sealed_in : List Happening → List (ℕ × List ℕ)
@@ -159,16 +159,16 @@ sealed_in (sent number message by answer ∷ before) = (by.now, by.salt) ∷ sea
 sealed_in (accepted number now datagram message ∷ before) = sealed_in before
 sealed_in (asked number device id request datagram ∷ before) = sealed_in before
 sealed_in (answered number device answer datagram ∷ before) = sealed_in before
-sealed_in (unanswered number message ∷ before) = sealed_in before
+sealed_in (unanswered number message by why ∷ before) = sealed_in before
 sealed_in (given_up number device ∷ before) = sealed_in before
 
--- what is sent is sealed by this agent, whatever it has counted meanwhile
+-- what is sent, or isn't, is this agent's, whatever it has counted meanwhile
 abbrev pub IsSealedBy : AgentState → Happening → Type 0
 IsSealedBy agent (sent number message by answer) = SameAgent agent by.agent
 IsSealedBy agent (accepted number now datagram message) = ⊤
 IsSealedBy agent (asked number device id request datagram) = ⊤
 IsSealedBy agent (answered number device answer datagram) = ⊤
-IsSealedBy agent (unanswered number message) = ⊤
+IsSealedBy agent (unanswered number message by why) = SameAgent agent by.agent
 IsSealedBy agent (given_up number device) = ⊤
 
 abbrev pub asked_in : List Happening → List (ℕ × List ℕ)
@@ -177,7 +177,7 @@ asked_in (asked number device id request datagram ∷ before) = (device, datagra
 asked_in (accepted number now datagram message ∷ before) = asked_in before
 asked_in (answered number device answer datagram ∷ before) = asked_in before
 asked_in (sent number message by answer ∷ before) = asked_in before
-asked_in (unanswered number message ∷ before) = asked_in before
+asked_in (unanswered number message by why ∷ before) = asked_in before
 asked_in (given_up number device ∷ before) = asked_in before
 
 abbrev pub sent_in : List Happening → List (List ℕ × ClientAnswer)
@@ -186,7 +186,7 @@ sent_in (sent number message by answer ∷ before) = (message.client.items, answ
 sent_in (accepted number now datagram message ∷ before) = sent_in before
 sent_in (asked number device id request datagram ∷ before) = sent_in before
 sent_in (answered number device answer datagram ∷ before) = sent_in before
-sent_in (unanswered number message ∷ before) = sent_in before
+sent_in (unanswered number message by why ∷ before) = sent_in before
 sent_in (given_up number device ∷ before) = sent_in before
 
 -- what came is what was accepted and answered, what went out is what was asked and sent, by the gateway's agent at that
@@ -210,7 +210,7 @@ accepted_for n (accepted number now datagram message ∷ before) =
 accepted_for n (asked number device id request datagram ∷ before) = accepted_for n before
 accepted_for n (answered number device answer datagram ∷ before) = accepted_for n before
 accepted_for n (sent number message by answer ∷ before) = accepted_for n before
-accepted_for n (unanswered number message ∷ before) = accepted_for n before
+accepted_for n (unanswered number message by why ∷ before) = accepted_for n before
 accepted_for n (given_up number device ∷ before) = accepted_for n before
 
 -- those that were answered, or weren't and won't be
@@ -218,7 +218,7 @@ abbrev pub ended_for : ℕ → List Happening → List WaitingMessage
 ended_for n [] = []
 ended_for n (sent number message by answer ∷ before) =
     cond (nat_eq n number) (ended_for n before ++ message ∷ []) (ended_for n before)
-ended_for n (unanswered number message ∷ before) =
+ended_for n (unanswered number message by why ∷ before) =
     cond (nat_eq n number) (ended_for n before ++ message ∷ []) (ended_for n before)
 ended_for n (accepted number now datagram message ∷ before) = ended_for n before
 ended_for n (asked number device id request datagram ∷ before) = ended_for n before

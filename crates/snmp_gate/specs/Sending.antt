@@ -1,29 +1,35 @@
 -- What goes out of what becomes of a message.
 --
--- `RepliesTo`: what becomes of a message of a request that ends. `IsSentBy`: what is sent of it. `IsOpenAt` and
--- `IsAskedAt`: the request at a place. `MayAskAt`: a datagram that may be sent for it. `SetsAsked`: its device is
--- asked.
-use Rattle.std.specs.Prelude.{◌≡◌, ⊤, ℕ, List, Option, Some, None, slice_index_or, slice_set}
+-- `RepliesTo`, `LeavesBy`: what becomes of a message of a request that ends. `IsSentBy`: what is sent of it.
+-- `IsOpenAt` and `IsAskedAt`: the request at a place. `MayAskAt`: a datagram that may be sent for it. `SetsAsked`: its
+-- device is asked.
+use Rattle.std.specs.Prelude.{◌≡◌, ◌⊎◌, ℕ, false, true, List, Option, Some, None, slice_index_or, slice_set}
 use Rattle.std.specs.Global.{Vec}
 use Rattle.snmp_agent.specs.Agent.{AgentState}
+use Rattle.snmp_agent.specs.declared.unhandled.Unhandled.TheVariants.{UnavailableContexts}
 use Rattle.snmp_incoming.specs.Outcome.{Given}
 use Rattle.std.specs.List.{HoldsAt}
 use Rattle.vacm_core.specs.Tables.{Tables}
 use Rattle.snmp_gate.specs.History.{IsAskFor}
+use Rattle.snmp_gate.specs.Limits.{IsLimit}
 use Rattle.snmp_gate.specs.Messages.{question_in}
+use Rattle.snmp_gate.specs.Noting.{AsksSet}
 use Rattle.snmp_gate.specs.Question.{Question}
 use Rattle.snmp_gate.specs.Replies.{IsReplyTo}
 use Rattle.snmp_gate.specs.Said.{Said}
 use Rattle.snmp_gate.specs.Time.{once_more, times_asked}
-use Rattle.snmp_gate.specs.Work.{EndingStands, TaskStands, again_of, request_of_task}
+use Rattle.snmp_gate.specs.Unanswered.{IsLeftBy}
+use Rattle.snmp_gate.specs.Work.{EndingStands, IsWhyOf, TaskStands, again_of, request_of_task}
 use Rattle.snmp_gate.specs.declared.gate.Sent.{Sent}
 use Rattle.snmp_gate.specs.declared.gate.Sent.TheVariants.{ToClient, Unanswered}
 use Rattle.snmp_gate.specs.declared.reply.Reply.{Reply}
 use Rattle.snmp_gate.specs.declared.set_answer.ResponseStatus.{ResponseStatus}
 use Rattle.snmp_gate.specs.declared.reply.Reply.TheVariants as reply
 use Rattle.snmp_gate.specs.declared.devices.Device.{Device}
+use Rattle.snmp_gate.specs.declared.limits.GateLimits.{GateLimits}
 use Rattle.snmp_gate.specs.declared.requests.WaitingRequest.{WaitingRequest}
 use Rattle.snmp_gate.specs.declared.waiting_message.WaitingMessage.{WaitingMessage}
+use Rattle.snmp_gate.specs.declared.work.EndedBy.{EndedBy}
 use Rattle.snmp_gate.specs.declared.work.RequestEnd.{RequestEnd}
 use Rattle.snmp_gate.specs.declared.work.RequestEnd.TheVariants as ending
 use Rattle.snmp_gate.specs.declared.work.OpenRequest.{OpenRequest}
@@ -32,20 +38,28 @@ use Rattle.snmp_gate.specs.declared.work.Work.TheVariants.{Open, Ends}
 
 abbrev pub RepliesTo : AgentState → ℕ → List ℕ → Question → Said → Given → Work → Reply → Type 0
 RepliesTo agent seconds salt q said g (Ends e) r = EndingStands agent.tables q said e
-    → IsReplyTo (record { agent = agent; now = seconds; salt = salt }) agent.tables q said (again_of e) g r
+    → IsReplyTo (record { agent = agent; now = seconds; salt = salt }) agent.tables q said (again_of e) (IsWhyOf e) g r
 RepliesTo agent seconds salt q said g (Open o) r = ⊥
+
+-- what becomes of a message of a request that ends, and has no answer
+abbrev pub LeavesBy : GateLimits → AgentState → ℕ → List ℕ → WaitingMessage → Work → Reply → Type 0
+LeavesBy limits agent seconds salt m (Ends e) r = (limit : ℕ)
+    × IsLimit limits m.kept.level m.kept.max_size m.size limit
+    × IsLeftBy (record { agent = agent; now = seconds; salt = salt }) limit m.kept e r
+LeavesBy limits agent seconds salt m (Open o) r = ⊥
 
 -- what the Response to a message of this request says again
 abbrev pub again_in : Work → Option ResponseStatus
 again_in (Ends e) = again_of e
 again_in (Open o) = None
 
-abbrev pub IsSentBy : ℕ → Vec ℕ → Reply → Sent → Type 0
-IsSentBy number client (reply.Responds says datagram) sent = sent ≡ ToClient number client (Some says) datagram
-IsSentBy number client (reply.Reports datagram) sent = sent ≡ ToClient number client None datagram
-IsSentBy number client reply.Nothing sent = sent ≡ Unanswered number None
-IsSentBy number client reply.SilentDrop sent = sent ≡ Unanswered number None
-IsSentBy number client (reply.Refused why) sent = sent ≡ Unanswered number (Some why)
+abbrev pub IsSentBy : ℕ → Vec ℕ → EndedBy → Reply → Sent → Type 0
+IsSentBy number client ended (reply.Responds says datagram) sent =
+    sent ≡ ToClient number client (Some says) datagram ended
+IsSentBy number client ended (reply.Reports datagram) sent = sent ≡ ToClient number client None datagram ended
+IsSentBy number client ended reply.Nothing sent = sent ≡ Unanswered number None ended
+IsSentBy number client ended reply.SilentDrop sent = sent ≡ Unanswered number None ended
+IsSentBy number client ended (reply.Refused why) sent = sent ≡ Unanswered number (Some why) ended
 
 abbrev pub Requests : Type 0
 Requests = List (WaitingRequest WaitingMessage Work)
@@ -91,7 +105,10 @@ pub record SetsAsked (old : Requests) (place id : ℕ) (new : Requests) : Type 0
     work = work;
   })
 
-abbrev pub IsGivenUp : RequestEnd → Type 0
-IsGivenUp ending.Silent = ⊤
-IsGivenUp (ending.Unhandled why) = ⊤
-IsGivenUp _ = ⊥
+-- how a request ends that is given up: in silence if it is a Set, or if nothing is reported of devices that don't
+-- answer; else its context is unavailable (RFC 3413, section 3.2)
+abbrev pub IsGivenUp : GateLimits → Work → RequestEnd → Type 0
+IsGivenUp limits w ending.Silent = (limits.report_unreachable ≡ false) ⊎ AsksSet w
+IsGivenUp limits w (ending.Unhandled why) = (why ≡ UnavailableContexts) × (limits.report_unreachable ≡ true)
+    × (¬ AsksSet w)
+IsGivenUp limits w _ = ⊥

@@ -3,7 +3,7 @@
 -- `WaitsFor`: the request's device is asked with a request-id. `WorkAfter`: what the request is behind the answer.
 -- `AnswerPlace`: for which request a device was asked with an answer's request-id. `WorkSaysSame`: a request stays what
 -- it was. `AllWorkSaysSame`: all requests do. `EndsAsSaid`: a SetRequest ends by what its device's answer says.
-use Rattle.std.specs.Prelude.{◌≡◌, ◌≢◌, ◌<◌, ℕ, pos, List, Some, None, length}
+use Rattle.std.specs.Prelude.{◌≡◌, ◌≢◌, ◌<◌, ◌≤◌, ℕ, pos, List, Some, None, length}
 use Rattle.std.specs.Global.{Vec}
 use Rattle.std.specs.List.{AllZip, HoldsAt}
 use Rattle.snmp_msg.specs.declared.pdu.Pdu.{Pdu}
@@ -15,7 +15,7 @@ use Rattle.snmp_gate.specs.Ends.{IsOutcomeOf}
 use Rattle.snmp_gate.specs.Groups.{Group}
 use Rattle.snmp_gate.specs.Question.{Question}
 use Rattle.snmp_gate.specs.Said.{Said}
-use Rattle.snmp_gate.specs.Work.{EndingStands, TaskStands}
+use Rattle.snmp_gate.specs.Work.{EndingStands, TaskStands, most_repetitions}
 use Rattle.snmp_gate.specs.declared.devices.Device.{Device}
 use Rattle.snmp_gate.specs.declared.requests.WaitingRequest.{WaitingRequest}
 use Rattle.snmp_gate.specs.declared.work.RequestEnd.TheVariants as ending
@@ -30,10 +30,11 @@ abbrev pub WaitsFor : ℕ → ℕ → Work → Type 0
 WaitsFor device id (Open o) = (o.device ≡ device) × (o.asked ≡ Some id)
 WaitsFor device id (Ends e) = ⊥
 
--- the request of the same device is to be asked more, or it ends
+-- the request of the same device is to be asked more, for no more repetitions, or it ends
 abbrev pub WorkAfter : Tables → Question → Said → OpenRequest → Work → Type 0
 WorkAfter tables q told old (Open new) = TaskStands tables q told new.task.task × (new.device ≡ old.device)
     × (new.asked ≡ None) × (new.task.task ≢ task.Set) × (new.timer.began ≡ old.timer.began)
+    × (most_repetitions new.task.task ≤ most_repetitions old.task.task)
 WorkAfter tables q told old (Ends e) = EndingStands tables q told e
 
 -- the community by which a device is asked this

@@ -8,6 +8,7 @@ use Rattle.snmp_msg.specs.PduTypes.{pdu_tag}
 use Rattle.snmp_msg.specs.Variables.{Variable, variables_of}
 use Rattle.snmp_msg.specs.declared.pdu_type.PduType.TheVariants.{GetBulkRequest, SetRequest}
 use Rattle.snmp_incoming.specs.Outcome.{Given}
+use Rattle.snmp_agent.specs.declared.unhandled.Unhandled.{Unhandled}
 use Rattle.snmp_responder.specs.Instrumentation.{Known}
 use Rattle.snmp_walk.specs.BulkDialogue.{IsCountOf}
 use Rattle.snmp_walk.specs.Dialogue.{requests_of}
@@ -33,12 +34,12 @@ pub data ShowsDevice (device : Known) (Seen : List ℕ → Type 0) (q : Question
   sets : q.tag ≡ pdu_tag SetRequest → vs ≡ variables_of q.list → ShowsDevice device Seen q vs
 
 abbrev pub TellsDevice : Known → (List ℕ → Type 0) → Answering → Question → Given → ClientAnswer → Type 0
-TellsDevice device Seen by q g answer = IsReport by g answer
+TellsDevice device Seen by q g answer = ((why : Unhandled) × IsReport by g why answer)
     ⊎ ((told : Told) × IsResponse by g told answer
     × (told.status ≡ NO_ERROR → ShowsDevice device Seen q told.variables))
 
 abbrev pub TellsSet : Said → Answering → Given → ClientAnswer → Type 0
-TellsSet said by g answer = IsReport by g answer
+TellsSet said by g answer = ((why : Unhandled) × IsReport by g why answer)
     ⊎ ((told : Told) × IsResponse by g told answer × ((told.status ≡ TOO_BIG) ⊎ SaysOfSet said told.status))
 
 -- the Set has no bindings; or its device said that it was done; or that may be told again

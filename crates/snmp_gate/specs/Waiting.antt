@@ -1,29 +1,32 @@
 -- What is known of the requests that wait at a gateway, by what happened before.
 --
 -- `OpenStands`: a request whose device is asked, or is to be asked. `GroupStands`: a request with its messages.
--- `GateStands`: all of a gateway. `ClientHappens`, `DeviceHappens`, `SendHappens`: what happens by a call, and that it
--- is lawful after what happened before. `IsIdFrom`: with which request-id a device is asked. `SameButSets`,
--- `IsAsBefore`: what stays the same.
+-- `CausesStand`: why a request has no Response. `GateStands`: all of a gateway. `ClientHappens`, `DeviceHappens`,
+-- `SendHappens`: what happens by a call, and that it is lawful after what happened before. `IsIdFrom`: with which
+-- request-id a device is asked. `SameButSets`, `IsAsBefore`: what stays the same.
 use Rattle.std.specs.Prelude.{◌≡◌, ◌≢◌, ◌⊎◌, ◌+◌, ◌/◌, ◌<◌, ◌≤◌, ⊤, ℕ, List, [], ◌∷◌, All, AllPairs, Contains, Some}
 use Rattle.std.specs.Prelude.{◌-◌, ◌%◌, ◌^◌, min}
 use Rattle.std.specs.Prelude.{None, Option, map, slice_index_or, slice_set}
+use Rattle.std.specs.List.{HoldsAt}
 use Rattle.sha2.specs.Sha256.{sha256}
 use Rattle.snmp_msg.specs.Pdu.{PduParts}
 use Rattle.vacm_core.specs.Tables.{Tables}
 use Rattle.snmp_message.specs.Numbers.{in_table}
 use Rattle.usm_core.specs.Table.{refusal_answer}
 use Rattle.snmp_agent.specs.Agent.{AgentTakes}
-use Rattle.snmp_agent.specs.Report.{AgentReports, report_of}
+use Rattle.snmp_agent.specs.Report.{AgentReports, IsShortReport, report_of}
 use Rattle.gateway_laws.specs.Requests.{RequestPdu}
 use Rattle.snmp_gate.specs.AskRuns.{HaveOwnIds}
 use Rattle.snmp_gate.specs.Asks.{Ends, IsNextFree, Waits, ask_of}
 use Rattle.snmp_gate.specs.Bounds.{IsBounded}
+use Rattle.snmp_gate.specs.Causes.{EndsOnlyBy, IfWorkEnds}
 use Rattle.snmp_gate.specs.Devices.{IsDeviceOf}
 use Rattle.snmp_gate.specs.Groups.{Group, groups_of}
-use Rattle.snmp_gate.specs.History.{CameFor, Happening, IsAccepted, IsToldAgain, OpenAsk, WasTold, accepted, answered}
+use Rattle.snmp_gate.specs.History.{CameFor, Happening, IsAccepted, IsCauseFor, IsToldAgain, OpenAsk}
+use Rattle.snmp_gate.specs.History.{WasTold, accepted, answered}
 use Rattle.snmp_gate.specs.History.{asked, given_up, number_of, open_ask, sent, told_in, unanswered, waiting_in}
 use Rattle.snmp_gate.specs.Lawful.{IsLawful, IsSetRequest, ShareNoDatagram, WasAsked}
-use Rattle.snmp_gate.specs.Limits.{IsAllowedBy, asks_since}
+use Rattle.snmp_gate.specs.Limits.{IsAllowedBy, IsSilent, asks_since}
 use Rattle.snmp_gate.specs.Messages.{question_in}
 use Rattle.snmp_gate.specs.Noting.{AsksSet}
 use Rattle.snmp_gate.specs.Question.{Question}
@@ -31,7 +34,7 @@ use Rattle.snmp_gate.specs.Replies.{Answering, SameAgent, answer_with}
 use Rattle.snmp_gate.specs.Sets.{IsKept, KeepsSets}
 use Rattle.snmp_gate.specs.Taking.{AllWorkSaysSame}
 use Rattle.snmp_gate.specs.Time.{times_asked}
-use Rattle.snmp_gate.specs.Work.{EndingStands, TaskStands, request_of_task}
+use Rattle.snmp_gate.specs.Work.{EndingStands, TaskStands, most_repetitions, request_of_task}
 use Rattle.snmp_gate.specs.declared.asks.DeviceAsk.{DeviceAsk}
 use Rattle.snmp_gate.specs.declared.asks.DeviceAsks.{DeviceAsks}
 use Rattle.snmp_gate.specs.declared.asks.TheConstants.{REQUEST_IDS}
@@ -43,6 +46,7 @@ use Rattle.snmp_gate.specs.declared.gate.DeviceTaken.TheVariants as device
 use Rattle.snmp_gate.specs.declared.gate.Gate.{Gate}
 use Rattle.snmp_gate.specs.declared.gate.Sent.{Sent}
 use Rattle.snmp_gate.specs.declared.gate.Sent.TheVariants as out
+use Rattle.snmp_gate.specs.declared.limits.GateLimits.{GateLimits}
 use Rattle.snmp_gate.specs.declared.set_answer.ResponseStatus.{ResponseStatus}
 use Rattle.snmp_gate.specs.declared.sets.RememberedSet.{RememberedSet}
 use Rattle.snmp_gate.specs.declared.sets.TheConstants.{REMEMBERED}
@@ -64,6 +68,8 @@ pub record OpenStands (tables : Tables) (devices : List Device) (before : List H
     (o : OpenRequest) : Type 0 where
   pub task : TaskStands tables q (told_in n before) o.task.task
   pub device : IsDeviceOf devices q.context o.device
+  -- for no more repetitions than it is configured for
+  pub repetitions : HoldsAt (λ (d : Device). most_repetitions o.task.task ≤ d.repetitions) devices o.device
   pub asked : (id : ℕ) → o.asked ≡ Some id → open_ask n before
       ≡ Some (record { device = o.device; id = id; request = request_of_task q o.task.task })
   -- a Set that isn't asked now never was
@@ -148,12 +154,26 @@ pub record OutcomesStand (before : List Happening) (groups : List (Group Waiting
   pub again : (g : Group WaitingMessage Work) (says : ResponseStatus) (m : WaitingMessage) → Contains groups g
       → g.work ≡ work.Ends (Repeated says) → Contains g.messages m → IsToldAgain before g.number m says
 
+-- a request ends without a Response only by a cause of what its messages ask, and in silence only if it was given up
+-- and isn't reported
+abbrev pub EndsByCause : GateLimits → List ℕ → Tables → List Device → List Happening → Group WaitingMessage Work
+    → Type 0
+EndsByCause limits engine tables devices before g = (m : WaitingMessage) (q : Question) → Contains g.messages m
+    → question_in m ≡ Some q
+    → IfWorkEnds (EndsOnlyBy (IsCauseFor engine tables devices before g.number q) (IsSilent limits before g.number q))
+    g.work
+
+abbrev pub CausesStand : List Happening → Gate → Type 0
+CausesStand before g = All (EndsByCause g.limits g.agent.engine g.agent.tables g.devices.list.items before)
+    (groups_of g.requests.list.items)
+
 -- all that is known of a gateway at a moment: the last one at which it took or sent something
 pub record GateStands (now : ℕ) (before : List Happening) (g : Gate) : Type 0 where
   pub requests : RequestsStand before g
   pub asks : AsksStand before (asks_in g.asks.items)
   pub sets : SetsStand now before (groups_of g.requests.list.items) g.sets.sets.items
   pub outcomes : OutcomesStand before (groups_of g.requests.list.items) g.sets.sets.items
+  pub causes : CausesStand before g
 
 -- all is the same but the Sets that are remembered
 pub record SameButSets (old new : Gate) : Type 0 where
@@ -200,7 +220,7 @@ pub record IsAsBefore (now : ℕ) (old new : Gate) : Type 0 where
 -- what happens is lawful, and the gateway stands after it
 pub record Happens (old : Gate) (now : ℕ) (before : List Happening) (happening : Happening) (new : Gate) : Type 0 where
   pub lawful : IsLawful old.agent old.devices.list.items before happening
-  pub allowed : IsAllowedBy old.limits before happening
+  pub allowed : IsAllowedBy old.limits old.devices.list.items before happening
   pub stands : GateStands now (happening ∷ before) new
 
 -- a message of this client is accepted
@@ -238,13 +258,13 @@ IsIdFrom old before number device from id = IsNextFree (slice_index_or (asks_in 
     × (open_ask number before ≡ Some (record { device = device; id = id; request = request })))
 
 abbrev pub SendHappens : Gate → ℕ → List Happening → Fresh → Sent → Gate → Type 0
-SendHappens old now before f (out.ToClient number to says datagram) new = (m : WaitingMessage) × (to ≡ m.client)
+SendHappens old now before f (out.ToClient number to says datagram ended) new = (m : WaitingMessage) × (to ≡ m.client)
     × Happens old now before (sent number m (answering_at old now f.salt) (answer_with says datagram)) new
-SendHappens old now before f (out.ToDevice number to datagram) new = (id : ℕ) × (request : RequestPdu)
+SendHappens old now before f (out.ToDevice number to datagram again) new = (id : ℕ) × (request : RequestPdu)
     × IsIdFrom old before number to f.ask_id id
     × Happens old now before (asked number to id request datagram.items) new
-SendHappens old now before f (out.Unanswered number why) new = (m : WaitingMessage)
-    × Happens old now before (unanswered number m) new
+SendHappens old now before f (out.Unanswered number why ended) new = (m : WaitingMessage)
+    × Happens old now before (unanswered number m (answering_at old now f.salt) why) new
 SendHappens old now before f (out.GivenUp number to) new = Happens old now before (given_up number to) new
 SendHappens old now before f out.Nothing new = GateStands now before new
 
@@ -261,11 +281,12 @@ pub record IsSameElse (old new : Gate) : Type 0 where
   pub sets : new.sets ≡ old.sets
 
 -- if a client's datagram is refused, the agent refuses it so, counts it and writes the report (RFC 3412, section 7.2),
--- and nothing else changes
+-- which is short, and nothing else changes
 abbrev pub IsRefusedBy : Gate → ℕ → List ℕ → Gate → ClientTaken → Type 0
 IsRefusedBy old seconds datagram new (client.Refused r) =
     AgentTakes old.agent seconds datagram (refusal_answer r.why.refusal) new.agent
     × (AgentReports new.agent seconds datagram (in_table r.why.refusal) (report_of r.report) × IsSameElse old new)
+    × IsShortReport r.report
 IsRefusedBy old seconds datagram new _ = ⊤
 
 -- the same engine, boots, users, tables, devices and limits, and it keeps to them

@@ -2,8 +2,8 @@
 --
 -- `told`: all that the device's answers for the request say. `SaysAll`: it has all that one of them says.
 -- `TaskStands`: what a device is asked for a request, and what is known of it. `TaskHas`: what of it is known when the
--- device has answered. `request_of_task`: the request. `EndingStands`: how it ends.
--- `OnwardStands`: how it goes on.
+-- device has answered. `request_of_task`: the request. `EndingStands`: how it ends. `IsWhyOf`: why it has a Report.
+-- `OnwardStands`: how it goes on. `most_repetitions`, `RepeatsAtMost`: for how many repetitions a device is asked.
 use Rattle.std.specs.Prelude.{◌≡◌, ◌≢◌, ◌≤◌, ⊤, ℕ, ℤ, Bool, [], All, Contains, None, Option, Some, length, true}
 use Rattle.std.specs.Ordering.{int_eq}
 use Rattle.snmp_ber.specs.declared.number.TheConstants.{MAX_INTEGER32}
@@ -13,6 +13,7 @@ use Rattle.snmp_msg.specs.Variables.{Variable, variables_of}
 use Rattle.snmp_msg.specs.declared.pdu.Pdu.{Pdu}
 use Rattle.snmp_msg.specs.declared.pdu_type.PduType.TheVariants.{GetBulkRequest, SetRequest}
 use Rattle.vacm_core.specs.Tables.{Tables}
+use Rattle.snmp_agent.specs.declared.unhandled.Unhandled.{Unhandled}
 use Rattle.snmp_responder.specs.Instrumentation.{Known}
 use Rattle.snmp_walk.specs.BulkAsk.{IsAskOf}
 use Rattle.snmp_walk.specs.BulkDialogue.{BulkAllStand, IsCountOf, bulk_requests, bulk_requests_of}
@@ -79,10 +80,11 @@ pub record BulkStandsFor (tables : Tables) (q : Question) (told : Said) (d : Bul
   pub tracks : (device : Known) → IsDevice device → AreTrue device told
       → AllBulkTrack device (seen_in tables q) d.columns.items
 
--- its device is asked in this way
+-- its device is asked in this way, for no more repetitions than it may be
 pub record IsAskedBy (d : BulkDialogue) (by : BulkAsk) : Type 0 where
   pub ask : d.ask ≡ by
   pub repetitions : ℕ
+  pub few : repetitions ≤ d.repetitions
   pub columns : IsAskOf d.non_repeaters repetitions d.columns.items by
 
 pub record BulkAskStands (tables : Tables) (q : Question) (told : Said) (by : BulkAsk) (d : BulkDialogue) : Type 0 where
@@ -106,6 +108,11 @@ TaskHas tables q told (task.Read operation d) = ReadStands tables q told operati
 TaskHas tables q told (task.Bulk by d) = BulkStandsFor tables q told d
 TaskHas tables q told task.Set = SetStands tables q
 
+-- for how many repetitions a device is asked at most, and may be asked later
+abbrev pub most_repetitions : Task → ℕ
+most_repetitions (task.Bulk by d) = d.repetitions
+most_repetitions _ = 0
+
 -- what a device is asked
 abbrev pub request_of_task : Question → Task → RequestPdu
 request_of_task q (task.Read operation d) = read_request operation d
@@ -126,6 +133,7 @@ EndingStands tables q told (ending.Columns whole) =
     (operation : ReadOperation) × ReadStands tables q told operation whole.dialogue
 EndingStands tables q told (ending.Front d) = BulkStandsFor tables q told d
 EndingStands tables q told (ending.Own says) = IsOwnStatus tables q told None says
+EndingStands tables q told (ending.RoundsUsedUp says) = IsOwnStatus tables q told None says
 EndingStands tables q told (ending.Repeated says) = (q.tag ≡ pdu_tag SetRequest) × IsUnasked told
 EndingStands tables q told (ending.Unhandled why) = ⊤
 EndingStands tables q told ending.Silent = ⊤
@@ -135,10 +143,20 @@ abbrev pub OnwardStands : Tables → Question → Said → Onward → Type 0
 OnwardStands tables q told (Asks named) = TaskStands tables q told named.task
 OnwardStands tables q told (Ends e) = EndingStands tables q told e
 
+-- if it goes on, its device is asked for so many repetitions at most
+abbrev pub RepeatsAtMost : ℕ → Onward → Type 0
+RepeatsAtMost most (Asks named) = most_repetitions named.task ≤ most
+RepeatsAtMost most (Ends e) = ⊤
+
 -- what its Response says again
 abbrev pub again_of : RequestEnd → Option ResponseStatus
 again_of (ending.Repeated says) = Some says
 again_of _ = None
+
+-- a Report on it is for this
+abbrev pub IsWhyOf : RequestEnd → Unhandled → Type 0
+IsWhyOf (ending.Unhandled why) other = other ≡ why
+IsWhyOf _ other = ⊥
 
 -- it doesn't end by what was told before
 abbrev pub IsToldFirst : RequestEnd → Type 0

@@ -6,6 +6,7 @@ ghost use Rattle.snmp_gate.specs.Counting.{CountsSent};
 ghost use Rattle.snmp_gate.specs.History.{Happening};
 ghost use Rattle.snmp_gate.specs.Sending.{IsAskedAt, IsOpenAt, MayAskAt};
 ghost use Rattle.snmp_gate.specs.Sending.{SetsAsked};
+ghost use Rattle.snmp_gate.specs.Told.{Tells};
 ghost use Rattle.std.specs.List.{HoldsAt};
 ghost use Rattle.snmp_gate.specs.Bounds.{AreTimely, MayBeAsked};
 ghost use Rattle.snmp_gate.specs.Due.{HasEnded, IsTodo};
@@ -110,10 +111,12 @@ impl Gate {
     /// message with tooBig. The error is out of memory. Then the request is as before.
     fn answer_too_long(&mut self, place: usize, now: u64, salt: [u8; 8]) -> Result<Sent, AllocError>
         requires place { place < length self.old.requests.list.items }
+        requires goes_on { HoldsAt (λ r. ¬ HasEnded r.work) self.old.requests.list.items place }
         ensures happens { IfOk result (λ sent. (since ask_id : ℕ) (before : List Happening) → since ≤ now
             → GateStands since before self.old
             → SendHappens self.old now before (fresh salt ask_id) sent self.new) }
         ensures something { IfOk result (λ sent. sent ≢ Sent.Nothing) }
+        ensures told { IfOk result (λ sent. HoldsAt (Tells sent) self.old.requests.list.items place) }
         ensures counted { IfOk result (CountsSent self.old.agent self.new.agent) }
         ensures stays { Stays self.old self.new }
         ensures err { OnErr result (IsAsBefore now self.old self.new) }
@@ -146,6 +149,7 @@ impl Gate {
             → GateStands since before self.old
             → SendHappens self.old now before (fresh salt ask_id) sent self.new) }
         ensures something { IfOk result (λ sent. sent ≢ Sent.Nothing) }
+        ensures told { IfOk result (λ sent. HoldsAt (Tells sent) self.old.requests.list.items place) }
         ensures counted { IfOk result (CountsSent self.old.agent self.new.agent) }
         ensures stays { Stays self.old self.new }
         ensures err { OnErr result (IsAsBefore now self.old self.new) }
@@ -164,6 +168,7 @@ impl Gate {
             number,
             device,
             datagram,
+            again: false,
         })
     }
 
@@ -183,6 +188,7 @@ impl Gate {
         ensures happens { IfOk result (λ sent. (since : ℕ) (before : List Happening) (f : Fresh) → since ≤ now
             → GateStands since before self.old → SendHappens self.old now before f sent self.new) }
         ensures something { IfOk result (λ sent. sent ≢ Sent.Nothing) }
+        ensures told { IfOk result (λ sent. HoldsAt (Tells sent) self.old.requests.list.items place) }
         ensures counted { IfOk result (CountsSent self.old.agent self.new.agent) }
         ensures stays { Stays self.old self.new }
         ensures err { OnErr result (IsAsBefore now self.old self.new) }
@@ -207,6 +213,7 @@ impl Gate {
             number,
             device,
             datagram,
+            again: true,
         })
     }
 }

@@ -1,16 +1,20 @@
 //! How a request begins.
 
-ghost use Rattle.std.specs.Prelude.{◌≡◌, ◌≢◌, ◌≤◌, List, [], IfOk, length};
+ghost use Rattle.std.specs.Prelude.{◌≡◌, ◌≢◌, ◌≤◌, ℕ, List, [], IfOk, length};
 ghost use Rattle.snmp_ber.specs.declared.number.TheConstants.{MAX_INTEGER32};
+ghost use Rattle.vacm_core.specs.Allowed.{HasContext};
 ghost use Rattle.vacm_core.specs.Tables.{Tables};
 ghost use Rattle.snmp_msg.specs.PduTypes.{pdu_tag};
 ghost use Rattle.snmp_msg.specs.Variables.{variables_of};
 ghost use Rattle.snmp_msg.specs.declared.pdu_type.PduType.TheVariants.{GetBulkRequest, GetRequest, GetNextRequest};
+ghost use Rattle.snmp_msg.specs.declared.pdu_type.PduType.TheVariants.{SetRequest};
+ghost use Rattle.snmp_gate.specs.Causes.{EndsFor, HasResponse, IfOnwardEnds};
+ghost use Rattle.snmp_gate.specs.declared.devices.Device.{Device};
 ghost use Rattle.snmp_gate.specs.Question.{Question};
 ghost use Rattle.snmp_gate.specs.Messages.{IsPduOf, IsViewerOf};
 ghost use Rattle.snmp_gate.specs.ReadAsks.{read_type};
 ghost use Rattle.snmp_gate.specs.ReadErrors.{IsCauseOfRefusal};
-ghost use Rattle.snmp_gate.specs.Work.{AsksNoSet, EndingStands, IsToldFirst, OnwardStands};
+ghost use Rattle.snmp_gate.specs.Work.{AsksNoSet, EndingStands, IsToldFirst, OnwardStands, RepeatsAtMost};
 ghost use Rattle.snmp_gate.specs.Said.{IsUnasked, Said};
 
 use crate::limits::GateLimits;
@@ -31,6 +35,9 @@ pub(crate) fn ending_of(refusal: AccessRefusal) -> RequestEnd
     ensures stands { (tables : Tables) (q : Question) (told : Said) → IsUnasked told
         → IsCauseOfRefusal tables q refusal → EndingStands tables q told result }
     ensures first { IsToldFirst result }
+    ensures cause { (engine : List ℕ) (tables : Tables) (devices : List Device) (q : Question)
+        → (refusal ≡ AccessRefusal.UnknownContext → ¬ HasContext tables.contexts q.context)
+        → EndsFor engine tables devices q result }
 {
     match refusal {
         AccessRefusal::AuthorizationError => RequestEnd::Own(ResponseStatus {
@@ -53,6 +60,7 @@ const MOST_VARIABLES: usize = 256;
 fn asks_too_much() -> RequestEnd
     ensures stands { (tables : Tables) (q : Question) (told : Said) → EndingStands tables q told result }
     ensures first { IsToldFirst result }
+    ensures responds { HasResponse result }
 {
     RequestEnd::Own(ResponseStatus {
         status: TOO_BIG,
@@ -72,6 +80,8 @@ fn begin_read(
         → IsViewerOf tables q viewer.now → IsPduOf q pdu.now → q.tag ≡ pdu_tag (read_type operation)
         → OnwardStands tables q told onward) }
     ensures first { IfOk result AsksNoSet }
+    ensures repeats { IfOk result (λ onward. (most : ℕ) → RepeatsAtMost most onward) }
+    ensures responds { IfOk result (IfOnwardEnds HasResponse) }
 {
     let dialogue = Dialogue::new(alloc, viewer, operation, pdu, limits.rounds)?;
     Ok(read_on(operation, dialogue, viewer))
@@ -89,6 +99,8 @@ fn begin_bulk(
         → IsViewerOf tables q viewer.now → IsPduOf q pdu.now → q.tag ≡ pdu_tag GetBulkRequest
         → OnwardStands tables q told onward) }
     ensures first { IfOk result AsksNoSet }
+    ensures repeats { IfOk result (RepeatsAtMost limits.now.repetitions) }
+    ensures responds { IfOk result (IfOnwardEnds HasResponse) }
 {
     let dialogue = BulkDialogue::new(alloc, pdu, limits)?;
     Ok(bulk_on(dialogue, viewer))
@@ -107,6 +119,10 @@ pub(crate) fn begin(
         → IsUnasked told → IsViewerOf tables q viewer.now → IsPduOf q pdu.now
         → OnwardStands tables q told onward) }
     ensures first { IfOk result AsksNoSet }
+    ensures repeats { IfOk result (RepeatsAtMost bulk.now.repetitions) }
+    ensures cause { IfOk result (λ onward. (engine : List ℕ) (tables : Tables) (devices : List Device)
+        (q : Question) → IsViewerOf tables q viewer.now → IsPduOf q pdu.now → q.tag ≢ pdu_tag SetRequest
+        → IfOnwardEnds (EndsFor engine tables devices q) onward) }
 {
     let answers = answers_of(alloc, viewer, ViewType::Read, pdu)?;
     if let Some(refusal) = access_refusal(&answers, pdu.tag) {

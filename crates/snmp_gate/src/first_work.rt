@@ -1,17 +1,23 @@
 //! What is done first for a request.
 
-ghost use Rattle.std.specs.Prelude.{◌≡◌, ◌<◌, ℕ, List, [], Some, None, length, IfOk, IfSome};
+ghost use Rattle.std.specs.Prelude.{◌≡◌, ◌≢◌, ◌<◌, ℕ, List, [], Some, None, length, IfOk, IfSome};
 ghost use Rattle.snmp_incoming.specs.Answers.{given_of};
 ghost use Rattle.snmp_msg.specs.Variables.{variables_of};
 ghost use Rattle.snmp_gate.specs.Question.{Question};
 ghost use Rattle.snmp_gate.specs.Messages.{question_given, question_in};
-ghost use Rattle.snmp_gate.specs.Beginning.{BeginsWell, IsFirstOnward, IsKnownBegin, IsKnownWork, IsSet, MaySetAll};
+ghost use Rattle.snmp_msg.specs.PduTypes.{pdu_tag};
+ghost use Rattle.snmp_msg.specs.declared.pdu_type.PduType.TheVariants.{SetRequest};
+ghost use Rattle.snmp_gate.specs.Beginning.{AreUnhandledBy, BeginsWell, EndsAt, IsFirstOnward, IsKnownBegin};
+ghost use Rattle.snmp_gate.specs.Beginning.{IsKnownWork, IsSet, MaySetAll};
+ghost use Rattle.snmp_gate.specs.Causes.{EndsFor, HasResponse, IfOnwardEnds, IfSetEnds, IfWorkEnds};
+ghost use Rattle.snmp_gate.specs.declared.devices.Device.{Device};
 ghost use Rattle.snmp_gate.specs.Bounds.{IsNew};
 ghost use Rattle.snmp_gate.specs.SetBegins.{SetStandsSo};
 ghost use Rattle.snmp_gate.specs.Sets.{KeepsSets};
 ghost use Rattle.snmp_gate.specs.Untaken.{CameBefore};
 ghost use Rattle.snmp_gate.specs.Waiting.{SameButSets};
-ghost use Rattle.snmp_gate.specs.Work.{AsksNoSet, EndingStands, IsToldFirst, OnwardStands};
+ghost use Rattle.snmp_gate.specs.Work.{AsksNoSet, EndingStands, IsToldFirst, OnwardStands, RepeatsAtMost};
+ghost use Rattle.std.specs.List.{HoldsAt};
 ghost use Rattle.snmp_gate.specs.Said.{IsUnasked, Said};
 ghost use Rattle.vacm_core.specs.Tables.{Tables};
 
@@ -58,6 +64,7 @@ fn own(status: i32, index: i32) -> RequestEnd
     ensures stands { (tables : Tables) (q : Question) (told : Said) → IsSet q → IsUnasked told
         → (status ≡ NO_ERROR → variables_of q.list ≡ []) → EndingStands tables q told result }
     ensures first { IsToldFirst result }
+    ensures responds { HasResponse result }
 {
     RequestEnd::Own(ResponseStatus { status, index })
 }
@@ -71,6 +78,9 @@ fn set_access(
     ensures ends { IfOk result (λ access. IfSome access.refused (λ ending. (q : Question) (told : Said)
         → IsSet q → IsUnasked told → EndingStands tables.now q told ending)) }
     ensures first { IfOk result (λ access. IfSome access.refused IsToldFirst) }
+    ensures cause { IfOk result (λ access. IfSome access.refused (λ ending. (engine : List ℕ) (devices : List Device)
+        (q : Question) → question_in message.now ≡ Some q → IsSet q
+        → EndsFor engine tables.now devices q ending)) }
     ensures may { IfOk result (λ access. (access.refused ≡ None) → (q : Question)
         → question_in message.now ≡ Some q → IsSet q → MaySetAll tables.now q) }
     ensures bindings { IfOk result (λ access. (q : Question) → question_in message.now ≡ Some q
@@ -104,6 +114,9 @@ impl Gate {
         ensures begins { IfOk result (λ begins. IfSome begins (λ work. (q : Question)
             → question_in message.now ≡ Some q
             → BeginsWell self.old.agent.tables self.old.devices.list.items q work)) }
+        ensures ends { IfOk result (λ begins. IfSome begins (λ work. (q : Question)
+            → AreUnhandledBy self.old message.now unhandled → question_in message.now ≡ Some q
+            → IfWorkEnds (EndsAt self.old q) work)) }
         ensures fresh { IfOk result (λ begins. IfSome begins (IsNew now)) }
         ensures unknown { IfOk result (λ begins. begins ≡ None → CameBefore now message.now.digest self.old) }
         ensures known { IfOk result (λ begins. IfSome begins
@@ -127,6 +140,8 @@ impl Gate {
         ensures begins { IfOk result (λ begins. IfSome begins (λ work. (q : Question)
             → question_in message.now ≡ Some q
             → BeginsWell self.old.agent.tables self.old.devices.list.items q work)) }
+        ensures ends { IfOk result (λ begins. IfSome begins (λ work. (q : Question)
+            → question_in message.now ≡ Some q → IfWorkEnds (EndsAt self.old q) work)) }
         ensures fresh { IfOk result (λ begins. IfSome begins (IsNew now)) }
         ensures unknown { IfOk result (λ begins. begins ≡ None → CameBefore now message.now.digest self.old) }
         ensures known { IfOk result (λ begins. IfSome begins
@@ -156,6 +171,11 @@ impl Gate {
             → IsUnasked told → question_given client (given_of taken.now) ≡ Some q
             → OnwardStands self.now.agent.tables q told onward) }
         ensures first { IfOk result AsksNoSet }
+        ensures ends { IfOk result (λ onward. (client : List ℕ) (q : Question)
+            → question_given client (given_of taken.now) ≡ Some q → q.tag ≢ pdu_tag SetRequest
+            → IfOnwardEnds (EndsAt self.now q) onward) }
+        ensures repeats { IfOk result (λ onward.
+            HoldsAt (λ d. RepeatsAtMost d.repetitions onward) self.now.devices.list.items device) }
     {
         let device = &self.devices.list[device];
         let bulk = BulkLimits {
@@ -178,6 +198,8 @@ impl Gate {
         requires { device < length self.old.devices.list.items }
         ensures begins { IfOk result (λ begins. (q : Question) → question_in message.now ≡ Some q → IsSet q
             → SetStandsSo self.old.agent.tables q begins) }
+        ensures ends { IfOk result (λ begins. (q : Question) → question_in message.now ≡ Some q → IsSet q
+            → IfSetEnds (EndsAt self.old q) begins) }
         ensures unknown { IfOk result (λ begins. begins ≡ SetBegins.Unknown
             → CameBefore now message.now.digest self.old) }
         ensures known { IfOk result (IsKnownBegin now message.now.digest self.old.sets.sets.items) }
@@ -210,6 +232,8 @@ impl Gate {
         requires { device < length self.old.devices.list.items }
         ensures begins { IfOk result (λ onward. (q : Question) → question_in message.now ≡ Some q → IsSet q
             → (told : Said) → IsUnasked told → OnwardStands self.old.agent.tables q told onward) }
+        ensures ends { IfOk result (λ onward. (q : Question) → question_in message.now ≡ Some q → IsSet q
+            → IfOnwardEnds (EndsAt self.old q) onward) }
         ensures first { IfOk result IsFirstOnward }
         ensures same { SameButSets self.old self.new }
         ensures sets { self.new.sets ≡ self.old.sets }
@@ -234,6 +258,8 @@ impl Gate {
         ensures ends { IfOk result (λ refused. IfSome refused (λ ending. (q : Question) (told : Said)
             → question_in message.now ≡ Some q → IsSet q → IsUnasked told
             → EndingStands self.old.agent.tables q told ending)) }
+        ensures cause { IfOk result (λ refused. IfSome refused (λ ending. (q : Question)
+            → question_in message.now ≡ Some q → IsSet q → EndsAt self.old q ending)) }
         ensures first { IfOk result (λ refused. IfSome refused IsToldFirst) }
         ensures may { IfOk result (λ refused. (refused ≡ None) → (q : Question)
             → question_in message.now ≡ Some q → IsSet q → MaySetAll self.old.agent.tables q) }
@@ -244,13 +270,7 @@ impl Gate {
         if let Some(ending) = refused {
             return Ok(Some(ending));
         }
-        if !fits_client(
-            self.alloc,
-            &mut self.agent,
-            now / 1000,
-            message,
-            &self.limits,
-        )? {
+        if !fits_client(self.alloc, &self.agent, now / 1000, message, &self.limits)? {
             return Ok(Some(own(TOO_BIG, 0)));
         }
         if bindings == 0 {

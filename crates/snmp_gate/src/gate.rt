@@ -11,7 +11,7 @@ use crate::requests::WaitingRequests;
 use crate::set_answer::ResponseStatus;
 use crate::sets::RememberedSets;
 use crate::waiting_message::WaitingMessage;
-use crate::work::Work;
+use crate::work::{EndedBy, Work};
 use snmp_agent::{Agent, Refused};
 use snmp_msg::Refusal;
 use snmp_walk::AnswerFault;
@@ -63,6 +63,7 @@ pub enum Sent {
         /// The error-status and the error-index of the Response. None: the datagram is a Report.
         says: Option<ResponseStatus>,
         datagram: Vec<u8>,
+        ended: EndedBy,
     },
     /// A datagram to a device, for the request with this number.
     ToDevice {
@@ -71,13 +72,16 @@ pub enum Sent {
         /// The number of the device, counted from 0.
         device: usize,
         datagram: Vec<u8>,
+        /// The device is asked the same again, since it didn't answer.
+        again: bool,
     },
     /// A message of the request with this number isn't answered. The reason is one of the user's or of the clock, if
-    /// there is one.
+    /// there is one. If there is none, and the request ended by an answer, even tooBig is too long.
     Unanswered {
         /// The number of the request.
         number: u64,
         why: Option<Refusal>,
+        ended: EndedBy,
     },
     /// The device didn't answer in time. The request with this number is given up.
     GivenUp {

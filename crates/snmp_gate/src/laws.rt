@@ -1,10 +1,14 @@
 //! Laws of the gateway's pieces, over any run of steps. Each function does nothing: its contract is the law.
 
 ghost use Rattle.std.specs.Prelude.{◌≡◌, ◌⊎◌, ℕ, ◌+◌, ◌*◌, ◌^◌, ◌<◌, ◌≤◌, max, List, [], length, All, Bool, count_by};
-ghost use Rattle.std.specs.Prelude.{◌++◌, ◌∷◌, Contains, Some};
+ghost use Rattle.std.specs.Prelude.{◌++◌, ◌∷◌, ◌≢◌, Contains, IfSome, None, Some, true};
+ghost use Rattle.std.specs.Prelude.{Option as OptionIs};
+ghost use Rattle.snmp_message.specs.declared.refusal.Refusal.{Refusal as RefusalIs};
 ghost use Rattle.snmp_msg.specs.Pdu.{PduParts};
 ghost use Rattle.snmp_gate.specs.declared.gate.ClientTaken.TheVariants as ClientTaken;
 ghost use Rattle.snmp_agent.specs.Agent.{AgentState};
+ghost use Rattle.snmp_agent.specs.declared.refused.Refused.{Refused};
+ghost use Rattle.snmp_agent.specs.declared.unhandled.Unhandled.{Unhandled};
 ghost use Rattle.snmp_responder.specs.Instrumentation.{Known};
 ghost use Rattle.gateway_laws.specs.Device.{IsDevice};
 ghost use Rattle.snmp_gate.specs.AskRuns.{AskStep, HaveOwnIds, IsAskRun, times_asked, times_ended, times_waiting};
@@ -12,11 +16,12 @@ ghost use Rattle.snmp_gate.specs.declared.asks.DeviceAsk.{DeviceAsk};
 ghost use Rattle.snmp_gate.specs.Groups.{Group};
 ghost use Rattle.snmp_gate.specs.GroupRuns.{AskOwn, AsksOneThing, GroupStep, HaveOwnNumbers, IsFew, IsGroupRun};
 ghost use Rattle.snmp_gate.specs.GroupRuns.{answered_by, taken_by, times_held};
-ghost use Rattle.snmp_gate.specs.History.{Happening, IsToldAgain, accepted, answered, sent, told_in, waiting_in};
+ghost use Rattle.snmp_gate.specs.History.{Happening, IsCauseFor, IsToldAgain, accepted, answered, sent, told_in};
+ghost use Rattle.snmp_gate.specs.History.{unanswered, waiting_in};
 ghost use Rattle.snmp_gate.specs.Lawful.{AreLawful, WasAsked};
 ghost use Rattle.snmp_gate.specs.Messages.{question_in, seen_in};
 ghost use Rattle.snmp_gate.specs.Question.{Question};
-ghost use Rattle.snmp_gate.specs.Replies.{Answering, ClientAnswer};
+ghost use Rattle.snmp_gate.specs.Replies.{Answering, ClientAnswer, IsReport};
 ghost use Rattle.snmp_gate.specs.Said.{AreTrue};
 ghost use Rattle.snmp_gate.specs.Through.{IsDoneBy, TellsDevice, TellsSet};
 ghost use Rattle.snmp_msg.specs.PduTypes.{pdu_tag};
@@ -25,10 +30,11 @@ ghost use Rattle.snmp_gate.specs.Runs.{Event, IsHistoryOf, IsRun, accepted_for, 
 ghost use Rattle.snmp_gate.specs.Runs.{goes_out};
 ghost use Rattle.snmp_gate.specs.Time.{AreAsks, IsDue, IsTimed, TimerStep};
 ghost use Rattle.snmp_gate.specs.SetRuns.{AreAsTold, ComesWithin, IsSetRun, SetStep, times_new};
-ghost use Rattle.snmp_gate.specs.Waiting.{Fresh, GateStands};
+ghost use Rattle.snmp_gate.specs.Waiting.{Fresh, GateStands, IsRefusedBy};
 ghost use Rattle.snmp_gate.specs.Bounds.{IsBounded, IsTimely};
 ghost use Rattle.snmp_gate.specs.Due.{IsIdle, retries_in};
-ghost use Rattle.snmp_gate.specs.Limits.{AlwaysKeepsTo, MustBeShort, WaitInTime};
+ghost use Rattle.snmp_gate.specs.Limits.{AlwaysKeepsTo, IsLimit, MayBeLeft, MustBeShort, WaitInTime};
+ghost use Rattle.snmp_gate.specs.Unanswered.{HasNoReport, HasNoRoom};
 ghost use Rattle.snmp_gate.specs.declared.devices.Device.{Device};
 ghost use Rattle.snmp_gate.specs.declared.gate.Gate.{Gate};
 ghost use Rattle.snmp_gate.specs.declared.gate.Sent.TheVariants as Sent;
@@ -151,6 +157,20 @@ pub fn a_client_sees_the_device()
         → TellsDevice device (seen_in agent.tables q) by q message.kept answer }
 {}
 
+/// In a lawful history of a gateway: what a client is sent of which no error-status is said is the Report for a cause
+/// that holds, with the counter of that cause. It is snmpUnknownPDUHandlers only if no command responder is registered
+/// for the PDU at its contextEngineID, snmpUnknownContexts only if no context or no device has its contextName, and
+/// snmpUnavailableContexts only if the request was given up (RFC 3412, section 7.2; RFC 3413, section 3.2; RFC 3415,
+/// section 3.2).
+pub fn a_report_has_its_cause()
+    ensures { (agent : AgentState) (devices : List Device) (before : List Happening) (number : ℕ)
+        (message : WaitingMessage) (by : Answering) (answer : ClientAnswer) (q : Question)
+        → AreLawful agent devices (sent number message by answer ∷ before)
+        → question_in message ≡ Some q → answer.says ≡ None
+        → (why : Unhandled) × IsReport by message.kept why answer
+        × IsCauseFor agent.engine agent.tables devices before number q why }
+{}
+
 /// In a lawful history of a gateway whose device was asked a Set: the Response to it has the error-status that the
 /// device gave (RFC 3416, section 4.2.5), or tooBig (`asked`). A Response says that a Set was done only if its device
 /// said so, or it has no bindings, or its datagram came for another request within 301 seconds before, and that was
@@ -201,13 +221,38 @@ pub fn a_gateway_keeps_to_its_limits()
 
 /// In a lawful history that keeps to a gateway's limits: nobody is sent an answer to a message without authentication
 /// that has more than 1,472 octets and more than twice the octets of the message's datagram, unless long answers are
-/// on. So a gateway sends an address that may be forged little more than it was sent from there.
+/// on (`answered`). And no datagram that is refused is ever reported by more (`refused`). So a gateway sends an address
+/// that may be forged little more than it was sent from there.
 pub fn an_answer_without_authentication_is_short()
-    ensures { (agent : AgentState) (devices : List Device) (limits : GateLimits) (before : List Happening)
+    ensures answered { (agent : AgentState) (devices : List Device) (limits : GateLimits) (before : List Happening)
         (number : ℕ) (message : WaitingMessage) (by : Answering) (answer : ClientAnswer)
         → AreLawful agent devices (sent number message by answer ∷ before)
         → AlwaysKeepsTo limits devices (sent number message by answer ∷ before)
         → MustBeShort limits message.kept.level
         → (now : ℕ) × (datagram : List ℕ) × Contains before (accepted number now datagram message)
         × (length answer.datagram ≤ max SHORT_ANSWER (2 * length datagram)) }
+    ensures refused { (old new : Gate) (seconds : ℕ) (datagram : List ℕ) (r : Refused)
+        → IsRefusedBy old seconds datagram new (ClientTaken.Refused r)
+        → IfSome r.report (λ report. length report.items ≤ max SHORT_ANSWER (2 * length datagram)) }
+{}
+
+/// In a history that keeps to a gateway's limits: a message has no answer only for a cause (`cause`). Its request was
+/// given up, and is a Set, which its device may have done, or `report_unreachable` is off. Or even tooBig without
+/// bindings is longer than its answer may be (RFC 3416, section 4.2.1); or no Report answers a PDU of its class (RFC
+/// 3412, section 7.1), or the Report is longer. Or nothing can be sealed for its user, by the reason that is said (RFC
+/// 3414, section 3.1). Where `report_unreachable` is on, no message of another request than a Set is left without an
+/// answer that has room for one (`reported`).
+pub fn a_message_without_an_answer_has_its_cause()
+    ensures cause { (limits : GateLimits) (devices : List Device) (before : List Happening) (number : ℕ)
+        (message : WaitingMessage) (by : Answering) (why : OptionIs RefusalIs) (q : Question)
+        → AlwaysKeepsTo limits devices (unanswered number message by why ∷ before)
+        → question_in message ≡ Some q → MayBeLeft limits devices before number q message by why }
+    ensures reported { (limits : GateLimits) (devices : List Device) (before : List Happening) (number : ℕ)
+        (message : WaitingMessage) (by : Answering) (q : Question)
+        → AlwaysKeepsTo limits devices (unanswered number message by None ∷ before)
+        → question_in message ≡ Some q → q.tag ≢ pdu_tag SetRequest → limits.report_unreachable ≡ true
+        → (limit : ℕ) × IsLimit limits message.kept.level message.kept.max_size message.size limit
+        × (HasNoRoom by limit message.kept ⊎ ((cause : Unhandled)
+        × IsCauseFor by.agent.engine by.agent.tables devices before number q cause
+        × HasNoReport by limit message.kept cause)) }
 {}

@@ -317,6 +317,7 @@ mod onward;
 mod read_ask;
 mod refused_access;
 mod reply;
+mod report;
 mod request_tag;
 mod requests;
 mod retries;
@@ -340,10 +341,10 @@ pub use devices::{Device, Devices, RepeatedContext};
 pub use gate::{ClientTaken, DeviceTaken, Gate, Sent};
 pub use laws::{
     a_client_sees_the_device, a_gateway_keeps_to_its_limits, a_gateway_mediates,
-    a_request_ends_in_time, a_request_is_one_question, a_set_goes_out_once,
-    a_set_is_told_as_its_device_answered, an_answer_is_of_one_ask,
-    an_answer_without_authentication_is_short, each_message_is_answered_once, messages_end_in_turn,
-    what_never_came_is_in_no_history,
+    a_message_without_an_answer_has_its_cause, a_report_has_its_cause, a_request_ends_in_time,
+    a_request_is_one_question, a_set_goes_out_once, a_set_is_told_as_its_device_answered,
+    an_answer_is_of_one_ask, an_answer_without_authentication_is_short,
+    each_message_is_answered_once, messages_end_in_turn, what_never_came_is_in_no_history,
 };
 pub use limits::GateLimits;
 pub use read_ask::{UNSPECIFIED, write_read_ask};
@@ -355,3 +356,4 @@ pub use set_answer::{ResponseStatus, set_outcome};
 pub use set_ask::{bindings_of, write_set_ask};
 pub use sets::{REMEMBERED, RememberedSet, RememberedSets, SETS_LIMIT, SetNote, set_digest};
 pub use timer::{Due, Timer, Turn};
+pub use work::EndedBy;

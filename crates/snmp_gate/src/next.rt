@@ -8,7 +8,7 @@ ghost use Rattle.snmp_gate.specs.Counting.{CountsReply, CountsSent};
 ghost use Rattle.snmp_gate.specs.History.{Happening};
 ghost use Rattle.snmp_gate.specs.Limits.{IsShortReplyFor};
 ghost use Rattle.snmp_gate.specs.Replies.{SameAgent, says_of};
-ghost use Rattle.snmp_gate.specs.Sending.{IsGivenUp, IsSentBy, RepliesTo};
+ghost use Rattle.snmp_gate.specs.Sending.{IsGivenUp, IsSentBy, LeavesBy, RepliesTo};
 ghost use Rattle.std.specs.List.{HoldsAt};
 ghost use Rattle.snmp_gate.specs.Bounds.{AsksBounded};
 ghost use Rattle.snmp_gate.specs.Due.{AreIdle, HasEnded, HasRoom, IsFirstDue, IsTodo, IsTodoAt, IsTodoOpen, due_in};
@@ -18,6 +18,7 @@ ghost use Rattle.snmp_gate.specs.Waiting.{EndsAsk, Fresh, GateStands, IsAsBefore
 ghost use Rattle.snmp_gate.specs.Waiting.{SendHappens, fresh};
 ghost use Rattle.snmp_gate.specs.Waiting.{Stays, asks_in};
 ghost use Rattle.snmp_gate.specs.Said.{Said};
+ghost use Rattle.snmp_gate.specs.Told.{IsEndOf, IsSentTold, Tells, TellsEnd};
 
 use crate::asks::DeviceAsks;
 use crate::gate::{Gate, Sent};
@@ -29,7 +30,7 @@ use crate::set_answer::ResponseStatus;
 use crate::task::Task;
 use crate::timer::Due;
 use crate::waiting_message::WaitingMessage;
-use crate::work::{OpenRequest, RequestEnd, Todo, Work};
+use crate::work::{EndedBy, OpenRequest, RequestEnd, Todo, Work, ended_by};
 use snmp_agent::{Agent, Unhandled};
 use std::alloc::{AllocError, Global};
 
@@ -126,6 +127,7 @@ fn reply_now(
     ensures sent { IfOk result (λ reply. (q : Question) (said : Said)
         → question_in request.now.first ≡ Some q
         → RepliesTo agent.old seconds salt q said request.now.first.kept request.now.work reply) }
+    ensures left { IfOk result (LeavesBy limits.now agent.old seconds salt request.now.first request.now.work) }
     ensures short { IfOk result (IsShortReplyFor limits.now request.now.first) }
     ensures counted { IfOk result (CountsReply agent.old agent.new) }
     ensures same { SameAgent agent.old agent.new }
@@ -168,9 +170,19 @@ pub(crate) fn is_set_at(work: &Work) -> bool
     }
 }
 
+/// Returns how this request ended. One that is open ends by an answer.
+fn end_of(work: &Work) -> EndedBy
+    ensures { IsEndOf work.now result }
+{
+    match work {
+        Work::Ends(ending) => ended_by(ending),
+        Work::Open(_) => EndedBy::Answer,
+    }
+}
+
 /// Returns what goes out, of what becomes of a message.
-fn sent_by(number: u64, client: Vec<u8>, reply: Reply) -> Sent
-    ensures is { IsSentBy number client reply result }
+fn sent_by(number: u64, client: Vec<u8>, ended: EndedBy, reply: Reply) -> Sent
+    ensures is { IsSentBy number client ended reply result }
     ensures something { result ≢ Sent.Nothing }
 {
     match reply {
@@ -179,17 +191,24 @@ fn sent_by(number: u64, client: Vec<u8>, reply: Reply) -> Sent
             client,
             says: Some(says),
             datagram,
+            ended,
         },
         Reply::Reports(datagram) => Sent::ToClient {
             number,
             client,
             says: None,
             datagram,
+            ended,
         },
-        Reply::Nothing | Reply::SilentDrop => Sent::Unanswered { number, why: None },
+        Reply::Nothing | Reply::SilentDrop => Sent::Unanswered {
+            number,
+            why: None,
+            ended,
+        },
         Reply::Refused(why) => Sent::Unanswered {
             number,
             why: Some(why),
+            ended,
         },
     }
 }
@@ -216,6 +235,9 @@ impl Gate {
     /// No salt may come twice (RFC 3826, section 3.1.2.1). `ask_id` is a number that didn't come before: the device is
     /// asked with this request-id, or with the next one with which it isn't asked.
     ///
+    /// What goes out tells whose request it is for, how that ended, and whether its device is asked the same again
+    /// (`told`).
+    ///
     /// It returns `Nothing` only if no request has ended, and by time alone nothing is due for any (`idle`). Of each
     /// request it does what is due, however often it is called.
     ///
@@ -226,6 +248,7 @@ impl Gate {
             → SendHappens self.old now before (fresh salt ask_id) sent self.new) }
         ensures idle { IfOk result (λ sent. sent ≡ Sent.Nothing
             → AreIdle self.new.limits now self.new.requests.list.items) }
+        ensures told { IfOk result (IsSentTold self.old) }
         ensures counted { IfOk result (CountsSent self.old.agent self.new.agent) }
         ensures stays { Stays self.old self.new }
         ensures err { OnErr result (IsAsBefore now self.old self.new) }
@@ -264,6 +287,7 @@ impl Gate {
             → GateStands since before self.old
             → SendHappens self.old now before (fresh salt ask_id) sent self.new) }
         ensures something { IfOk result (λ sent. sent ≢ Sent.Nothing) }
+        ensures told { IfOk result (λ sent. HoldsAt (TellsEnd sent) self.old.requests.list.items place) }
         ensures counted { IfOk result (CountsSent self.old.agent self.new.agent) }
         ensures stays { Stays self.old self.new }
         ensures err { OnErr result (IsAsBefore now self.old self.new) }
@@ -271,6 +295,7 @@ impl Gate {
     {
         let request = &self.requests.list[place];
         let number = request.number;
+        let ended = end_of(&request.work);
         let seconds = now / 1000;
         let reply = reply_now(
             self.alloc,
@@ -282,7 +307,7 @@ impl Gate {
         )?;
         let message = self.requests.answer(place);
         self.tell_set(&message, said_by(&reply));
-        Ok(sent_by(number, message.client, reply))
+        Ok(sent_by(number, message.client, ended, reply))
     }
 
     /// Remembers what the Response to a Set says.
@@ -301,7 +326,7 @@ impl Gate {
     /// done it.
     fn given_up_at(&self, place: usize) -> RequestEnd
         requires { place < length self.now.requests.list.items }
-        ensures { IsGivenUp result }
+        ensures { HoldsAt (λ r. IsGivenUp self.now.limits r.work result) self.now.requests.list.items place }
     {
         if !self.limits.report_unreachable || is_set_at(&self.requests.list[place].work) {
             return RequestEnd::Silent;
@@ -316,6 +341,7 @@ impl Gate {
         ensures happens { (since now : ℕ) (before : List Happening) (f : Fresh) → since ≤ now
             → GateStands since before self.old → SendHappens self.old now before f result self.new }
         ensures something { result ≢ Sent.Nothing }
+        ensures told { HoldsAt (Tells result) self.old.requests.list.items place }
         ensures counted { CountsSent self.old.agent self.new.agent result }
         ensures stays { Stays self.old self.new }
     {

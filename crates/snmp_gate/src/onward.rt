@@ -1,6 +1,6 @@
 //! How a request goes on, after it came and after each answer of its device.
 
-ghost use Rattle.std.specs.Prelude.{◌≡◌, ◌≢◌, ◌<◌, ℕ, List, IfOk, IfSome, OnErr};
+ghost use Rattle.std.specs.Prelude.{◌≡◌, ◌≢◌, ◌<◌, ◌≤◌, ℕ, List, IfOk, IfSome, OnErr};
 ghost use Rattle.vacm_core.specs.Tables.{Tables};
 ghost use Rattle.snmp_msg.specs.Pdu.{pdu_of};
 ghost use Rattle.snmp_msg.specs.Variables.{Variable};
@@ -11,9 +11,11 @@ ghost use Rattle.snmp_gate.specs.Messages.{IsViewerOf};
 ghost use Rattle.snmp_gate.specs.ReadAsks.{bulk_request_by, read_request};
 ghost use Rattle.snmp_walk.specs.declared.bulk_ask.BulkAsk.{BulkAsk as BulkAskIs};
 ghost use Rattle.snmp_gate.specs.Work.{AsksNoSet, BulkAskStands, BulkStandsFor, OnwardStands, ReadStands, SaysAll};
-ghost use Rattle.snmp_gate.specs.Work.{TaskHas};
+ghost use Rattle.snmp_gate.specs.Work.{IsAskedBy, RepeatsAtMost, TaskHas, most_repetitions};
 ghost use Rattle.snmp_gate.specs.declared.set_answer.ResponseStatus.{ResponseStatus as Says};
-ghost use Rattle.snmp_gate.specs.Ends.{ErrsSo, FailsOrGoesOn, IsEndFor, IsFailing, IsStatusOfFailure};
+ghost use Rattle.snmp_gate.specs.Causes.{HasResponse, IfOnwardEnds};
+ghost use Rattle.snmp_gate.specs.Ends.{EndsIfSet, ErrsSo, FailsOrGoesOn, IsEndFor, IsFailing, IsStatusOfFailure};
+ghost use Rattle.snmp_gate.specs.declared.task.Task.TheVariants as TaskIs;
 ghost use Rattle.snmp_gate.specs.ReadErrors.{IsIndexAmong};
 ghost use Rattle.snmp_gate.specs.Fits.{BulkFits, ReadFits, fault_of};
 ghost use Rattle.snmp_gate.specs.Taking.{BulkSaysSame};
@@ -121,13 +123,15 @@ pub(crate) fn read_on(
     ensures stands { (tables : Tables) (q : Question) (told : Said) → IsViewerOf tables q viewer.now
         → ReadStands tables q told operation dialogue → OnwardStands tables q told result }
     ensures no_set { AsksNoSet result }
+    ensures repeats { (most : ℕ) → RepeatsAtMost most result }
+    ensures responds { IfOnwardEnds HasResponse result }
 {
     match dialogue.go_on(viewer) {
         Next::Asks => Onward::Asks(NamedTask {
             task: Task::Read(operation, dialogue),
         }),
         Next::Ends => Onward::Ends(RequestEnd::Columns(WholeDialogue { dialogue })),
-        Next::RoundsUsedUp(number) => Onward::Ends(RequestEnd::Own(gen_err(Some(number)))),
+        Next::RoundsUsedUp(number) => Onward::Ends(RequestEnd::RoundsUsedUp(gen_err(Some(number)))),
     }
 }
 
@@ -137,13 +141,17 @@ pub(crate) fn bulk_on(mut dialogue: BulkDialogue, viewer: &Viewer<'_>) -> Onward
     ensures stands { (tables : Tables) (q : Question) (told : Said) → IsViewerOf tables q viewer.now
         → BulkStandsFor tables q told dialogue → OnwardStands tables q told result }
     ensures no_set { AsksNoSet result }
+    ensures repeats { RepeatsAtMost dialogue.repetitions result }
+    ensures responds { IfOnwardEnds HasResponse result }
 {
     match dialogue.go_on(viewer) {
         BulkNext::Asks(by) => Onward::Asks(NamedTask {
             task: Task::Bulk(by, dialogue),
         }),
         BulkNext::Ends => Onward::Ends(RequestEnd::Front(dialogue)),
-        BulkNext::RoundsUsedUp(number) => Onward::Ends(RequestEnd::Own(gen_err(Some(number)))),
+        BulkNext::RoundsUsedUp(number) => Onward::Ends(RequestEnd::RoundsUsedUp(gen_err(Some(
+            number,
+        )))),
     }
 }
 
@@ -188,6 +196,8 @@ pub(crate) fn take_bulk(
     ensures fails { IfOk result FailsOrGoesOn }
     ensures errs { IfOk result (λ taken. (tables : Tables) (q : Question) (told : Said)
         → BulkStandsFor tables q told dialogue.old → ErrsSo tables q told taken) }
+    ensures repeats { IfOk result (λ _. (by : BulkAskIs) → IsAskedBy dialogue.old by
+        → dialogue.new.repetitions ≤ dialogue.old.repetitions) }
     ensures fits { IfOk result (λ taken.
         BulkFits (seen_by viewer.now) dialogue.old (pdu_of answer.now) (fault_of taken)) }
     ensures err { OnErr result (BulkSaysSame dialogue.old dialogue.new) }
@@ -212,6 +222,8 @@ fn after_task(named: NamedTask, is_front: bool, viewer: &Viewer<'_>, late: bool)
     ensures stands { (tables : Tables) (q : Question) (told : Said) → IsViewerOf tables q viewer.now
         → TaskHas tables q told named.task → OnwardStands tables q told result }
     ensures no_set { AsksNoSet result }
+    ensures responds { named.task ≢ TaskIs.Set → IfOnwardEnds HasResponse result }
+    ensures repeats { RepeatsAtMost (most_repetitions named.task) result }
 {
     let NamedTask { task } = named;
     match task {
@@ -232,6 +244,8 @@ pub(crate) fn after(named: NamedTask, taken: AnswerTaken, viewer: &Viewer<'_>, l
         → IsEndFor tables q told taken
         → TaskHas tables q told named.task → OnwardStands tables q told result }
     ensures no_set { AsksNoSet result }
+    ensures responds { EndsIfSet named.task taken → IfOnwardEnds HasResponse result }
+    ensures repeats { RepeatsAtMost (most_repetitions named.task) result }
     ensures ends { (says : Says) → taken ≡ AnswerTaken.Ends says → result ≡ Onward.Ends (RequestEnd.Own says) }
 {
     match taken {

@@ -1,6 +1,6 @@
 //! What a message is answered.
 
-ghost use Rattle.std.specs.Prelude.{◌≡◌, ◌↔◌, ◌⊎◌, ℕ, List, Some, All, map, IfOk, IsTrue, OnErr};
+ghost use Rattle.std.specs.Prelude.{◌≡◌, ◌↔◌, ℕ, List, Some, All, map, IfOk, IsTrue, OnErr};
 ghost use Rattle.std.specs.Prelude.{Option as OptionIs};
 ghost use Rattle.snmp_ber.specs.Element.{IsTag};
 ghost use Rattle.snmp_msg.specs.Variables.{CanBeWritten, Variable, bound_variable, variable_of, variables_of};
@@ -13,23 +13,26 @@ ghost use Rattle.snmp_gate.specs.Counting.{CountsReply};
 ghost use Rattle.snmp_gate.specs.Limits.{IsLimit, IsShortReply};
 ghost use Rattle.snmp_gate.specs.Question.{Question};
 ghost use Rattle.snmp_gate.specs.Messages.{question_given, question_in};
-ghost use Rattle.snmp_gate.specs.Replies.{IsFrontSentOr, IsOwnList, IsReplyTo, IsReportedOr, IsSentOr};
-ghost use Rattle.snmp_gate.specs.Replies.{IsTooBigOr, SameAgent};
-ghost use Rattle.snmp_gate.specs.Replies.{answering, told_with};
-ghost use Rattle.snmp_gate.specs.Work.{BulkStandsFor, EndingStands, IsOwnStatus, ReadStands, again_of};
+ghost use Rattle.snmp_gate.specs.Replies.{IsFrontSentOr, IsOwnList, IsReplyTo, IsSentOr};
+ghost use Rattle.snmp_gate.specs.Replies.{IsTooBigOr, NoCause, SameAgent};
+ghost use Rattle.snmp_gate.specs.Replies.{answering, response_with, told_with};
+ghost use Rattle.snmp_gate.specs.Work.{BulkStandsFor, EndingStands, IsOwnStatus, IsWhyOf, ReadStands, again_of};
 ghost use Rattle.snmp_gate.specs.Said.{Said};
+ghost use Rattle.snmp_gate.specs.SetRoom.{HasRoomForSet};
+ghost use Rattle.snmp_gate.specs.Unanswered.{IsLeftAnswer, IsLeftBy, IsLeftWithout};
 ghost use Rattle.snmp_gate.specs.declared.set_answer.ResponseStatus.{ResponseStatus as Says};
 ghost use Rattle.snmp_walk.specs.declared.operation.ReadOperation.{ReadOperation};
 
 use crate::limits::GateLimits;
+use crate::report::reply_unhandled;
 use crate::set_answer::{GEN_ERR, INCONSISTENT_NAME, NO_ERROR, ResponseStatus, TOO_BIG};
 use crate::set_ask::bindings_of;
 use crate::viewing::pdu_of;
 use crate::waiting_message::WaitingMessage;
 use crate::whole_dialogue::WholeDialogue;
 use crate::work::RequestEnd;
-use snmp_agent::{Agent, Unhandled};
-use snmp_ber::Level;
+use snmp_agent::{Agent, Response};
+use snmp_ber::{Level, MAX_INTEGER32};
 use snmp_incoming::Taken;
 use snmp_msg::{Binding, LARGEST, Refusal, RefusedAt, Spelled, VariableBinding};
 use snmp_walk::BulkDialogue;
@@ -91,6 +94,18 @@ pub(crate) fn limit_of(level: Level, max_size: u32, size: usize, limits: &GateLi
     most.min(SHORT_ANSWER.max(size.saturating_mul(2)))
 }
 
+/// Returns what a Response with this error-status and error-index says besides its bindings.
+fn response_of(says: ResponseStatus, sealing: &Sealing) -> Response
+    ensures { result ≡ response_with says sealing.now }
+{
+    Response {
+        status: says.status,
+        index: says.index,
+        salt: sealing.salt,
+        limit: sealing.limit,
+    }
+}
+
 /// Returns what becomes of a message whose Response was refused with its bindings.
 fn reply_without(
     agent: &mut Agent,
@@ -99,6 +114,8 @@ fn reply_without(
     sealing: &Sealing,
 ) -> Result<Reply, AllocError>
     ensures sent { IfOk result (IsTooBigOr (answering agent.old sealing.now) (given_of taken.now)) }
+    ensures left { IfOk result (IsLeftWithout (answering agent.old sealing.now) sealing.now.limit (given_of taken.now)
+        refused.refusal) }
     ensures short { IfOk result (λ reply. (c : Contexts) (p : PduParts) → ScopedFront (text_of taken.now.text) c
         → PduText c.pdu p → IsShortReply sealing.now.limit reply) }
     ensures counted { IfOk result (CountsReply agent.old agent.new) }
@@ -108,22 +125,24 @@ fn reply_without(
     if refused.is_memory() {
         return Err(AllocError);
     }
-    if refused.refusal != Refusal::TooLarge {
+    let Refusal::TooLarge = refused.refusal else {
         return Ok(Reply::Refused(refused.refusal));
-    }
+    };
     let none: [Binding<'_>; 0] = [];
-    let (now, limit) = (sealing.seconds, sealing.limit);
     let says = ResponseStatus {
         status: TOO_BIG,
         index: 0,
     };
-    match agent.respond_within(now, taken, TOO_BIG, 0, &none, sealing.salt, limit) {
+    match agent.write_response(sealing.seconds, taken, &response_of(says, sealing), &none) {
         Ok(datagram) => Ok(Reply::Responds { says, datagram }),
         Err(refused) if refused.is_memory() => Err(AllocError),
-        Err(_) => {
-            agent.silent_drop();
-            Ok(Reply::SilentDrop)
-        }
+        Err(refused) => match refused.refusal {
+            Refusal::TooLarge => {
+                agent.silent_drop();
+                Ok(Reply::SilentDrop)
+            }
+            refusal => Ok(Reply::Refused(refusal)),
+        },
     }
 }
 
@@ -138,14 +157,19 @@ fn reply_with<B: Spelled>(
     requires { All (λ b. B.fits b) bindings.now }
     ensures sent { IfOk result (IsSentOr (answering agent.old sealing.now) (given_of taken.now)
         (told_with says (map B.says bindings.now))) }
+    ensures left { IfOk result (IsLeftAnswer (answering agent.old sealing.now) sealing.now.limit (given_of taken.now)) }
     ensures short { IfOk result (λ reply. (c : Contexts) (p : PduParts) → ScopedFront (text_of taken.now.text) c
         → PduText c.pdu p → IsShortReply sealing.now.limit reply) }
     ensures counted { IfOk result (CountsReply agent.old agent.new) }
     ensures same { SameAgent agent.old agent.new }
     ensures err { OnErr result (agent.new ≡ agent.old) }
 {
-    let (now, salt, limit) = (sealing.seconds, sealing.salt, sealing.limit);
-    match agent.respond_within_of(now, taken, says.status, says.index, bindings, salt, limit) {
+    match agent.write_response(
+        sealing.seconds,
+        taken,
+        &response_of(says, sealing),
+        bindings,
+    ) {
         Ok(datagram) => Ok(Reply::Responds { says, datagram }),
         Err(refused) => reply_without(agent, taken, refused, sealing),
     }
@@ -161,14 +185,15 @@ fn reply_front(
     requires { All (λ b. CanBeWritten (variable_of b)) bindings.now }
     ensures sent { IfOk result (IsFrontSentOr (answering agent.old sealing.now) (given_of taken.now)
         (map variable_of bindings.now)) }
+    ensures left { IfOk result (IsLeftAnswer (answering agent.old sealing.now) sealing.now.limit (given_of taken.now)) }
     ensures short { IfOk result (λ reply. (c : Contexts) (p : PduParts) → ScopedFront (text_of taken.now.text) c
         → PduText c.pdu p → IsShortReply sealing.now.limit reply) }
     ensures counted { IfOk result (CountsReply agent.old agent.new) }
     ensures same { SameAgent agent.old agent.new }
     ensures err { OnErr result (agent.new ≡ agent.old) }
 {
-    let (now, salt, limit) = (sealing.seconds, sealing.salt, sealing.limit);
-    match agent.respond_front(now, taken, NO_ERROR, 0, bindings, salt, limit) {
+    let response = response_of(WITHOUT_ERROR, sealing);
+    match agent.respond_front(sealing.seconds, taken, &response, bindings) {
         Ok(fronted) => Ok(Reply::Responds {
             says: WITHOUT_ERROR,
             datagram: fronted.text,
@@ -205,7 +230,9 @@ fn reply_own(
 ) -> Result<Reply, AllocError>
     ensures sent { IfOk result (λ reply. (client : List ℕ) (q : Question) (said : Said) (again : OptionIs Says)
         → question_given client (given_of taken.now) ≡ Some q → IsOwnStatus agent.old.tables q said again says
-        → IsReplyTo (answering agent.old sealing.now) agent.old.tables q said again (given_of taken.now) reply) }
+        → IsReplyTo (answering agent.old sealing.now) agent.old.tables q said again NoCause (given_of taken.now)
+        reply) }
+    ensures left { IfOk result (IsLeftAnswer (answering agent.old sealing.now) sealing.now.limit (given_of taken.now)) }
     ensures short { IfOk result (λ reply. (c : Contexts) (p : PduParts) → ScopedFront (text_of taken.now.text) c
         → PduText c.pdu p → IsShortReply sealing.now.limit reply) }
     ensures counted { IfOk result (CountsReply agent.old agent.new) }
@@ -214,42 +241,6 @@ fn reply_own(
 {
     let bindings = own_bindings(alloc, taken, says.status)?;
     reply_with(agent, taken, says, &bindings, sealing)
-}
-
-/// Returns what becomes of a message whose report is this.
-fn report_within(report: Vec<u8>, limit: usize) -> Reply
-    ensures is { (result ≡ Reply.Nothing) ⊎ (result ≡ Reply.Reports report) }
-    ensures short { IsShortReply limit result }
-{
-    if report.len() > limit {
-        return Reply::Nothing;
-    }
-    Reply::Reports(report)
-}
-
-/// Returns what becomes of a message that no application answers. A report that is too long isn't sent.
-fn reply_unhandled(
-    agent: &mut Agent,
-    taken: &Taken<'_>,
-    why: Unhandled,
-    sealing: &Sealing,
-) -> Result<Reply, AllocError>
-    ensures sent { IfOk result (IsReportedOr (answering agent.old sealing.now) (given_of taken.now)) }
-    ensures short { IfOk result (λ reply. (c : Contexts) (p : PduParts) → ScopedFront (text_of taken.now.text) c
-        → PduText c.pdu p → IsShortReply sealing.now.limit reply) }
-    ensures counted { IfOk result (CountsReply agent.old agent.new) }
-    ensures same { SameAgent agent.old agent.new }
-    ensures err { OnErr result (agent.new ≡ agent.old) }
-{
-    // every accepted message has these, so that what is refused says what it leaves
-    let _scoped = taken.scoped();
-    let _pdu = taken.pdu();
-    match agent.refuse(sealing.seconds, taken, why, sealing.salt) {
-        Ok(Some(report)) => Ok(report_within(report, sealing.limit)),
-        Ok(None) => Ok(Reply::Nothing),
-        Err(refused) if refused.is_memory() => Err(AllocError),
-        Err(refused) => Ok(Reply::Refused(refused.refusal)),
-    }
 }
 
 /// Returns true if the binding can be written.
@@ -283,7 +274,9 @@ fn reply_columns(
         (again : OptionIs Says) (operation : ReadOperation)
         → question_given client (given_of taken.now) ≡ Some q
         → ReadStands agent.old.tables q said operation whole.now.dialogue
-        → IsReplyTo (answering agent.old sealing.now) agent.old.tables q said again (given_of taken.now) reply) }
+        → IsReplyTo (answering agent.old sealing.now) agent.old.tables q said again NoCause (given_of taken.now)
+        reply) }
+    ensures left { IfOk result (IsLeftAnswer (answering agent.old sealing.now) sealing.now.limit (given_of taken.now)) }
     ensures short { IfOk result (λ reply. (c : Contexts) (p : PduParts) → ScopedFront (text_of taken.now.text) c
         → PduText c.pdu p → IsShortReply sealing.now.limit reply) }
     ensures counted { IfOk result (CountsReply agent.old agent.new) }
@@ -308,7 +301,9 @@ fn reply_bulk(
     ensures sent { IfOk result (λ reply. (client : List ℕ) (q : Question) (said : Said) (again : OptionIs Says)
         → question_given client (given_of taken.now) ≡ Some q
         → BulkStandsFor agent.old.tables q said dialogue.now
-        → IsReplyTo (answering agent.old sealing.now) agent.old.tables q said again (given_of taken.now) reply) }
+        → IsReplyTo (answering agent.old sealing.now) agent.old.tables q said again NoCause (given_of taken.now)
+        reply) }
+    ensures left { IfOk result (IsLeftAnswer (answering agent.old sealing.now) sealing.now.limit (given_of taken.now)) }
     ensures short { IfOk result (λ reply. (c : Contexts) (p : PduParts) → ScopedFront (text_of taken.now.text) c
         → PduText c.pdu p → IsShortReply sealing.now.limit reply) }
     ensures counted { IfOk result (CountsReply agent.old agent.new) }
@@ -333,8 +328,10 @@ pub(crate) fn reply_to(
     ensures sent { IfOk result (λ reply. (q : Question) (said : Said)
         → question_in message.now ≡ Some q
         → EndingStands agent.old.tables q said ending.now
-        → IsReplyTo (answering agent.old sealing.now) agent.old.tables q said (again_of ending.now) message.now.kept
-        reply) }
+        → IsReplyTo (answering agent.old sealing.now) agent.old.tables q said (again_of ending.now)
+        (IsWhyOf ending.now) message.now.kept reply) }
+    ensures left { IfOk result (IsLeftBy (answering agent.old sealing.now) sealing.now.limit message.now.kept
+        ending.now) }
     ensures short { IfOk result (λ reply. (c : Contexts) (p : PduParts) → ScopedFront message.now.kept.text c
         → PduText c.pdu p → IsShortReply sealing.now.limit reply) }
     ensures counted { IfOk result (CountsReply agent.old agent.new) }
@@ -347,38 +344,31 @@ pub(crate) fn reply_to(
         RequestEnd::Front(dialogue) => reply_bulk(alloc, agent, &taken, dialogue, sealing),
         RequestEnd::Own(says) => reply_own(alloc, agent, &taken, *says, sealing),
         RequestEnd::Repeated(says) => reply_own(alloc, agent, &taken, *says, sealing),
+        RequestEnd::RoundsUsedUp(says) => reply_own(alloc, agent, &taken, *says, sealing),
         RequestEnd::Unhandled(why) => reply_unhandled(agent, &taken, *why, sealing),
         RequestEnd::Silent => Ok(Reply::Nothing),
     }
 }
 
 /// Returns true if the Response to a Set fits its client, with its own bindings and the longest error-status and
-/// error-index. The datagram isn't sent. The error is out of memory, and nothing changes.
+/// error-index. Its length is counted, and nothing is sealed. The error is out of memory.
 pub(crate) fn fits_client(
     alloc: Global,
-    agent: &mut Agent,
+    agent: &Agent,
     now: u64,
     message: &WaitingMessage,
     limits: &GateLimits,
 ) -> Result<bool, AllocError>
-    ensures { agent.new ≡ agent.old }
+    ensures { IfOk result (HasRoomForSet agent.now now message.now limits.now) }
 {
     let taken = message.kept.taken();
     let bindings = own_bindings(alloc, &taken, NO_ERROR)?;
-    let index = i32::try_from(bindings.len()).unwrap_or(i32::MAX);
-    let limit = limit_of(taken.level, taken.max_size, message.size, limits);
-    let salt = [0; 8];
-    match agent.respond_within_of(
-        now,
-        &taken,
-        INCONSISTENT_NAME,
-        index,
-        &bindings,
-        salt,
-        limit,
-    ) {
-        Ok(_) => Ok(true),
-        Err(refused) if refused.is_memory() => Err(AllocError),
-        Err(refused) => Ok(refused.refusal != Refusal::TooLarge),
-    }
+    let response = Response {
+        status: INCONSISTENT_NAME,
+        index: bindings.len().min(MAX_INTEGER32 as usize) as i32,
+        salt: [0; 8],
+        limit: limit_of(taken.level, taken.max_size, message.size, limits),
+    };
+    let most = agent.fits(now, &taken, &response, &bindings);
+    Ok(most == Some(bindings.len()))
 }

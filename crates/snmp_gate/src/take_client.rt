@@ -6,8 +6,10 @@ ghost use Rattle.std.specs.List.{HoldsAt};
 ghost use Rattle.sha2.specs.Sha256.{sha256};
 ghost use Rattle.snmp_incoming.specs.Answers.{given_of};
 ghost use Rattle.snmp_gate.specs.Question.{Question};
-ghost use Rattle.snmp_gate.specs.Messages.{question_in};
-ghost use Rattle.snmp_gate.specs.Beginning.{BeginsWell, IsKnownOnward, IsKnownWork, IsNoRefusal, IsOfDatagram};
+ghost use Rattle.snmp_gate.specs.Messages.{question_given, question_in};
+ghost use Rattle.snmp_gate.specs.Beginning.{AreUnhandledBy, BeginsWell, IsKnownOnward, IsKnownWork, IsNoRefusal};
+ghost use Rattle.snmp_gate.specs.Beginning.{IsOfDatagram};
+ghost use Rattle.snmp_gate.specs.Causes.{EndsFor, IfOnwardEnds, IfWorkEnds, IsUnhandledBy};
 ghost use Rattle.snmp_gate.specs.Beginning.{IsUntaken, MayBeJoined, TakenIn};
 ghost use Rattle.snmp_gate.specs.Bounds.{IsNew};
 ghost use Rattle.snmp_gate.specs.Devices.{IsDeviceOf};
@@ -16,7 +18,7 @@ ghost use Rattle.snmp_gate.specs.Noting.{AsksSet, IsNotedAgain, IsNotedFor, IsUn
 ghost use Rattle.snmp_gate.specs.Sets.{KeepsSets};
 ghost use Rattle.snmp_gate.specs.Untaken.{HasCause, IsCauseOf};
 ghost use Rattle.snmp_gate.specs.Waiting.{ClientHappens, GateStands, IsAsBefore, IsRefusedBy, SameButSets, Stays};
-ghost use Rattle.snmp_gate.specs.Work.{OnwardStands};
+ghost use Rattle.snmp_gate.specs.Work.{OnwardStands, RepeatsAtMost};
 ghost use Rattle.snmp_gate.specs.Said.{IsUnasked, Said};
 ghost use Rattle.snmp_gate.specs.declared.devices.Device.{Device as DeviceIs};
 ghost use Rattle.snmp_gate.specs.declared.sets.RememberedSet.{RememberedSet};
@@ -32,7 +34,7 @@ use crate::timer::Timer;
 use crate::viewing::pdu_of;
 use crate::waiting_message::WaitingMessage;
 use crate::work::{OpenRequest, RequestEnd, Work};
-use snmp_agent::Unhandled;
+use snmp_agent::{Agent, Unhandled};
 use snmp_incoming::{Kept, Taken};
 use snmp_msg::PduType;
 use std::alloc::AllocError;
@@ -68,7 +70,9 @@ fn place_of(
 pub(crate) fn work_of(device: usize, now: u64, onward: Onward) -> Work
     ensures begins { (tables : Tables) (devices : List DeviceIs) (q : Question)
         → ((told : Said) → IsUnasked told → OnwardStands tables q told onward) → IsDeviceOf devices q.context device
-        → BeginsWell tables devices q result }
+        → HoldsAt (λ d. RepeatsAtMost d.repetitions onward) devices device → BeginsWell tables devices q result }
+    ensures cause { (engine : List ℕ) (tables : Tables) (devices : List DeviceIs) (q : Question)
+        → IfOnwardEnds (EndsFor engine tables devices q) onward → IfWorkEnds (EndsFor engine tables devices q) result }
     ensures fresh { IsNew now result }
     ensures known { (digest : OptionIs (List ℕ)) (sets : List RememberedSet) → IsKnownOnward now digest sets onward
         → IsKnownWork now digest sets result }
@@ -92,6 +96,18 @@ fn asks_set(work: &Work) -> bool
         Work::Open(open) => matches!(open.task.task, Task::Set),
         Work::Ends(_) => false,
     }
+}
+
+/// Returns why no application of this agent answers what an accepted message asks. None: one answers it.
+fn unhandled_by(agent: &Agent, taken: &Taken<'_>) -> Option<Unhandled>
+    ensures { (devices : List DeviceIs) (client : List ℕ) (q : Question)
+        → question_given client (given_of taken.now) ≡ Some q
+        → IfSome result (IsUnhandledBy agent.now.engine agent.now.tables devices q) }
+{
+    // every accepted message has these, so that what is refused is what it asks
+    let _scoped = taken.scoped();
+    let _pdu = taken.pdu();
+    agent.unhandled(taken)
 }
 
 /// What is remembered of a Set before its device is asked.
@@ -144,7 +160,7 @@ impl Gate {
             Err(refused) if refused.why.is_memory() => return Err(AllocError),
             Err(refused) => return Ok(ClientTaken::Refused(refused)),
         };
-        let unhandled = self.agent.unhandled(&taken);
+        let unhandled = unhandled_by(&self.agent, &taken);
         let message = self.message_of(client, datagram, taken)?;
         match place_of(self.requests.requests(), &message) {
             Some(place) => self.join(now, place, message),
@@ -250,8 +266,8 @@ impl Gate {
         requires asks { (q : Question) × (question_in message ≡ Some q) }
         requires digest { (datagram : List ℕ) × IsOfDatagram message datagram }
         ensures takes { IfOk result (λ taken. (since : ℕ) (before : List Happening) (datagram : List ℕ) → since ≤ now
-            → IsOfDatagram message datagram → GateStands since before self.old
-            → TakenIn before now datagram message taken self.new) }
+            → IsOfDatagram message datagram → AreUnhandledBy self.old message unhandled
+            → GateStands since before self.old → TakenIn before now datagram message taken self.new) }
         ensures accepts { IfOk result IsNoRefusal }
         ensures untaken { IfOk result (λ taken. IsUntaken taken → IsAsBefore now self.old self.new) }
         ensures cause { IfOk result (IsCauseOf self.old now message.digest) }

@@ -12,7 +12,8 @@ ghost use Rattle.snmp_gate.specs.Question.{Question};
 ghost use Rattle.snmp_gate.specs.Fits.{IsFitTold, TaskFits, WorkFits, fault_of};
 ghost use Rattle.snmp_gate.specs.Hidden.{IsHiddenTold};
 ghost use Rattle.snmp_gate.specs.Messages.{IsViewerOf, question_in, seen_in};
-ghost use Rattle.snmp_gate.specs.Ends.{EndsSet, IsEndFor};
+ghost use Rattle.snmp_gate.specs.Causes.{HasResponse, IfWorkEnds};
+ghost use Rattle.snmp_gate.specs.Ends.{EndsIfSet, EndsSet, IsEndFor};
 ghost use Rattle.snmp_gate.specs.declared.set_answer.ResponseStatus.{ResponseStatus as Says};
 ghost use Rattle.snmp_gate.specs.declared.task.Task.TheVariants as TaskIs;
 ghost use Rattle.snmp_gate.specs.Beginning.{MayBeJoined};
@@ -22,7 +23,7 @@ ghost use Rattle.snmp_gate.specs.Noting.{AsksSet};
 ghost use Rattle.snmp_gate.specs.Taking.{AnswerPlace, IsCommunityOfWork, OpenSaysSame, TaskSaysSame, WaitsFor};
 ghost use Rattle.snmp_gate.specs.Taking.{EndsAsSaid, WorkAfter, WorkSaysSame};
 ghost use Rattle.snmp_gate.specs.Waiting.{DeviceHappens, GateStands, IsAsBefore, Stays};
-ghost use Rattle.snmp_gate.specs.Work.{SaysAll, TaskHas, TaskStands, request_of_task};
+ghost use Rattle.snmp_gate.specs.Work.{SaysAll, TaskHas, TaskStands, most_repetitions, request_of_task};
 ghost use Rattle.snmp_gate.specs.Said.{Said};
 ghost use Rattle.snmp_gate.specs.declared.work.OpenRequest.{OpenRequest as OpenIs};
 ghost use Rattle.snmp_gate.specs.declared.work.Work.TheVariants.{Open};
@@ -67,6 +68,10 @@ fn take_task(
         → TaskStands tables q told named.old.task
         → TaskHas tables q told named.new.task × IsEndFor tables q told taken) }
     ensures set { IfOk result (λ taken. named.old.task ≡ TaskIs.Set → EndsSet answer.now taken) }
+    ensures ends { IfOk result (EndsIfSet named.new.task) }
+    ensures repeats { IfOk result (λ _. (tables : Tables) (q : Question) (told : Said)
+        → TaskStands tables q told named.old.task
+        → most_repetitions named.new.task ≤ most_repetitions named.old.task) }
     ensures fits { IfOk result (λ taken.
         TaskFits (seen_by viewer.now) named.old.task (pdu_of answer.now) (fault_of taken)) }
     ensures err { OnErr result (TaskSaysSame named.old.task named.new.task) }
@@ -84,6 +89,7 @@ fn work_after(asked: OpenRequest, taken: AnswerTaken, viewer: &Viewer<'_>, late:
         → IsEndFor tables q told taken → TaskHas tables q told asked.task.task → WorkAfter tables q told asked result }
     ensures no_set { ¬ AsksSet result }
     ensures first { MayBeJoined result }
+    ensures responds { EndsIfSet asked.task.task taken → IfWorkEnds HasResponse result }
     ensures fresh { IsFresh result }
     ensures ends { (says : Says) → taken ≡ AnswerTaken.Ends says → result ≡ Work.Ends (RequestEnd.Own says) }
 {
@@ -138,6 +144,10 @@ fn take_open(
     ensures device { waiting.new.device ≡ waiting.old.device }
     ensures timer { waiting.new.timer ≡ waiting.old.timer }
     ensures set { IfOk result (λ taken. waiting.old.task.task ≡ TaskIs.Set → EndsSet answer.now taken) }
+    ensures ends { IfOk result (EndsIfSet waiting.new.task.task) }
+    ensures repeats { IfOk result (λ _. (tables : Tables) (q : Question) (told : Said)
+        → TaskStands tables q told waiting.old.task.task
+        → most_repetitions waiting.new.task.task ≤ most_repetitions waiting.old.task.task) }
     ensures fits { IfOk result (λ taken. (q : Question) → question_in message.now ≡ Some q
         → TaskFits (seen_in tables.now q) waiting.old.task.task (pdu_of answer.now) (fault_of taken)) }
     ensures err { OnErr result (OpenSaysSame waiting.old waiting.new) }
@@ -162,6 +172,8 @@ fn after_answer(
         → TaskHas tables.now q told o.task.task → WorkAfter tables.now q told o result }
     ensures no_set { ¬ AsksSet result }
     ensures first { (o : OpenIs) → old ≡ Open o → MayBeJoined result }
+    ensures responds { (o : OpenIs) → old ≡ Open o → EndsIfSet o.task.task became
+        → IfWorkEnds HasResponse result }
     ensures fresh { IsFresh result }
     ensures ends { (o : OpenIs) (says : Says) → old ≡ Open o → became ≡ AnswerTaken.Ends says
         → result ≡ Work.Ends (RequestEnd.Own says) }
@@ -193,6 +205,7 @@ fn take_answer(
         → TaskStands tables.now q told o.task.task → WorkAfter tables.now q told o work.new) }
     ensures no_set { IfOk result (λ _. ¬ AsksSet work.new) }
     ensures first { IfOk result (λ _. (o : OpenIs) → work.old ≡ Open o → MayBeJoined work.new) }
+    ensures responds { IfOk result (λ _. (o : OpenIs) → work.old ≡ Open o → IfWorkEnds HasResponse work.new) }
     ensures fresh { IfOk result (λ _. IsFresh work.new) }
     ensures set { IfOk result (λ _. AsksSet work.old → EndsAsSaid answer.now work.new) }
     ensures fits { IfOk result (λ fault. (q : Question) → question_in message.now ≡ Some q

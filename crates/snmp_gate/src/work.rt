@@ -1,5 +1,8 @@
 //! What becomes of a request.
 
+ghost use Rattle.std.specs.Prelude.{◌≡◌};
+ghost use Rattle.snmp_gate.specs.Told.{end_told};
+
 use crate::named_task::NamedTask;
 use crate::set_answer::ResponseStatus;
 use crate::timer::Timer;
@@ -18,10 +21,40 @@ pub enum RequestEnd {
     Own(ResponseStatus),
     /// The same for a Set whose datagram came before, and was told this then.
     Repeated(ResponseStatus),
+    /// The same with genErr, since its device was asked as often as it may be for one request, and not all is known.
+    RoundsUsedUp(ResponseStatus),
     /// The request isn't answered, and a report may tell why.
     Unhandled(Unhandled),
     /// Nothing is sent.
     Silent,
+}
+
+/// How a request ended of which a message is answered, or isn't.
+#[derive(Clone, Copy, Debug, PartialEq, Eq)]
+pub enum EndedBy {
+    /// By what its device answered, or by an error of the gateway's own.
+    Answer,
+    /// By what its datagram was told before: it is a Set that came again.
+    Repeated,
+    /// By genErr, since its device was asked as often as it may be for one request.
+    RoundsUsedUp,
+    /// No application answers it, for this cause; or it was given up, and its context is unavailable.
+    Unhandled(Unhandled),
+    /// It was given up, and nothing is said of it.
+    Silence,
+}
+
+/// Returns how a request ended.
+pub(crate) fn ended_by(ending: &RequestEnd) -> EndedBy
+    ensures { result ≡ end_told ending.now }
+{
+    match ending {
+        RequestEnd::Columns(_) | RequestEnd::Front(_) | RequestEnd::Own(_) => EndedBy::Answer,
+        RequestEnd::Repeated(_) => EndedBy::Repeated,
+        RequestEnd::RoundsUsedUp(_) => EndedBy::RoundsUsedUp,
+        RequestEnd::Unhandled(why) => EndedBy::Unhandled(*why),
+        RequestEnd::Silent => EndedBy::Silence,
+    }
 }
 
 /// A request whose device is to be asked, or to answer.

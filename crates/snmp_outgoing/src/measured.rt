@@ -15,7 +15,7 @@ use std::alloc::AllocError;
 /// A ScopedPDU of these parts, with what was measured of it.
 #[derive(Drop)]
 pub(crate) struct Measured<'a, B> {
-    front: Front<'a>,
+    pub(crate) front: Front<'a>,
     bindings: &'a [B],
     /// How many octets its list of bindings has.
     pub(crate) list_len: usize,

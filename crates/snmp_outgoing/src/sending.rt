@@ -1,13 +1,14 @@
 //! Messages that go out.
 
 ghost use Rattle.std.specs.Prelude.{◌≡◌, ◌+◌, ◌<◌, ◌≤◌, All, [], length, map, take, IfOk, IfSome, MatchResult};
-ghost use Rattle.std.specs.Prelude.{Ok};
+ghost use Rattle.std.specs.Prelude.{IsTrue, Ok, false};
 ghost use Rattle.snmp_ber.specs.declared.level.Level.TheVariants.{NoAuthNoPriv};
 ghost use Rattle.engine_clock.specs.Pairs.{IsPair};
 ghost use Rattle.usm_core.specs.Answers.{seal_answer};
 ghost use Rattle.usm_core.specs.Sealed.{Seals, IsSealable};
 ghost use Rattle.snmp_outgoing.specs.Sends.{sent, sent_with, CanSend, RefusesSender};
-ghost use Rattle.snmp_outgoing.specs.Fronts.{IsBeyond, SealsFront, front_answer, room};
+ghost use Rattle.snmp_outgoing.specs.Fronts.{IsBeyond, IsWithin, SealsFront, front_answer, room};
+ghost use Rattle.snmp_outgoing.specs.Scopeds.{IsMeasured};
 ghost use Rattle.snmp_outgoing.specs.UpTo.{UpTo};
 ghost use Rattle.snmp_msg.specs.Pdu.{IsSpelled};
 ghost use Rattle.snmp_msg.specs.PduTypes.{IsPduTag};
@@ -21,6 +22,7 @@ use crate::envelope::Envelope;
 use crate::front::{Front, Fronted};
 use crate::measured::Measured;
 use snmp_ber::Level;
+use snmp_message::ScopedPdu;
 use snmp_msg::{LARGEST, Refusal, RefusedAt, Spelled};
 use usm_core::{Users, one_sealed, sealed_size, some_sealed};
 
@@ -115,6 +117,34 @@ fn room(limit: usize) -> usize
     limit.min(LARGEST)
 }
 
+/// The most octets of a message besides its ScopedPDU, its engine ID and its user name.
+const MOST_AROUND: usize = 150;
+
+/// Whether a message of this envelope has at most `limit` octets, at most 65,507, with this ScopedPDU. Nothing is
+/// written, and it takes no memory. The user is looked for only if the protocol decides.
+fn has_room<B: Spelled>(
+    users: &Users,
+    envelope: &Envelope<'_>,
+    measured: &Measured<'_, B>,
+    limit: usize,
+) -> bool
+    requires engine { length envelope.now.engine.now ≤ 32 }
+    requires pair { IsPair envelope.now.pair }
+    requires fits { IsMeasured B.fits B.says measured.now }
+    requires limit { limit ≤ LARGEST }
+    ensures yes { IsTrue result → IsWithin users.now.users limit
+        (sent_with envelope.now (scoped_after measured.now.front (map B.says measured.now.bindings.now))) }
+    ensures no { result ≡ false → IsBeyond users.now.users limit
+        (sent_with envelope.now (scoped_after measured.now.front (map B.says measured.now.bindings.now))) }
+{
+    sealed_size();
+    let names_len = envelope.engine.len() + envelope.user.len();
+    if MOST_AROUND + names_len + measured.octets_len() <= limit {
+        return true;
+    }
+    is_within(users, envelope, &measured.front, measured.list_len, limit)
+}
+
 /// The text of the message with these bindings, where that has at most `limit` octets. Its length is counted
 /// before any key is looked for, so that nothing is sealed that is too long.
 ///
@@ -155,7 +185,7 @@ pub fn write_within<B: Spelled>(
         supports(users, envelope.user, envelope.level)?;
         return Err(RefusedAt::plain(Refusal::TooLarge));
     };
-    if !is_within(users, envelope, front, measured.list_len, room(limit)) {
+    if !has_room(users, envelope, &measured, room(limit)) {
         supports(users, envelope.user, envelope.level)?;
         return Err(RefusedAt::plain(Refusal::TooLarge));
     }

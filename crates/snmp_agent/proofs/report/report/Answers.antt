@@ -33,6 +33,7 @@ write_report-requires c = record {
       let rows = answer_counted c.args.why c.in-Some.n (Outcome taker c.args.users.now.users c.args.now c.args.datagram.now) c.requires.rows c.in-Some.ensures.value in
       known c.verified_was_read.ensures.accepted c.one_message.ensures.one c.one_cut.ensures.one c.args.engine.now.id c.args.engine.now.boots c.args.engine.now.started c.args.now c.args.why
       c.args.users.now.users c.args.datagram.now c.in-Some-asking.asking (second_is c.args.why c.in-Some.n c.in-Some.ensures.value two) rows c.in-Some-asking.ensures;
+  pair = c.in-Some-pair.ensures.2;
 }
 
 pub returns-clause-report : goal.returns-clause-report

@@ -26,3 +26,11 @@ unreachable-requires-then-not-is_memory c =
     let engine = c.as_slice.ensures.bounds.at_most in
     let most = scoped_most c.args.engine.now c.args.asking.now.request_id c.args.n c.args.value engine in
     omega (arith, long, most, engine, c.args.asking.now.user_fits)
+
+pub returns-in-Ok-clause-short : goal.returns-in-Ok-clause-short
+returns-in-Ok-clause-short c =
+    let fits : SFits w32 c.args.asking.now.request_id = search rules in
+    let rows = rw (c.report_level.ensures, c.in-Some.ensures.value, c.counter_name.ensures, c.as_slice.ensures.value, to_z-of_z w32 c.args.asking.now.request_id fits) at c.in-Ok.ensures.rows in
+    let sealed = seals_text c.args.users.now.users (reporting_of c.args.engine.now c.args.own c.args.n c.args.asking.now c.args.value) c.in-Ok.text.items rows in
+    c.report_is_short.ensures c.args.users.now.users c.args.engine.now c.args.own c.args.asking.now.id c.args.asking.now.user.now c.args.asking.now.request_id c.args.n c.args.value c.in-Ok.text.items
+    c.as_slice.ensures.bounds.at_most c.requires.pair c.args.asking.now.id_fits c.args.asking.now.user_fits sealed

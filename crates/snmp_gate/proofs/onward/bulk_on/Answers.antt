@@ -25,6 +25,7 @@ returns-in-Asks-clause-stands c tables q told viewer stands =
       asked = record {
         ask = chosen.keeps;
         repetitions = repetitions_due d.repetitions d.max_repetitions chosen.fewest;
+        few = omega (arith, asks.0.repetitions);
         columns = subst (λ (n : ℕ). IsAskOf n (repetitions_due d.repetitions d.max_repetitions chosen.fewest) new.columns.items c.in-Asks.by) (sym asks.0.non_repeaters) chosen.asks;
       };
     }

@@ -1,9 +1,9 @@
-use Rattle.std.proofs.Common.{ap, subst, sym, ◌∙◌, Option}
+use Rattle.std.proofs.Common.{ap, subst, sym, ◌∙◌, ◌≤◌, Option}
 use Rattle.snmp_msg.specs.Pdu.{pdu_of}
 use Rattle.snmp_walk.specs.declared.answer.AnswerFault.{AnswerFault}
 use Rattle.snmp_gate.specs.Fits.{TaskFits, WorkFits}
 use Rattle.snmp_gate.specs.Messages.{seen_in}
-use Rattle.snmp_gate.specs.Work.{SaysAll, TaskStands, request_of_task}
+use Rattle.snmp_gate.specs.Work.{SaysAll, TaskStands, most_repetitions, request_of_task}
 use Rattle.snmp_gate.specs.declared.work.OpenRequest.{OpenRequest}
 use Rattle.snmp_gate.specs.declared.work.Work.{Work}
 use Rattle.snmp_gate.proofs.Endings.{after_same, one_open}
@@ -19,6 +19,8 @@ returns-clause-after c o q told asked is says stands =
     let new : OpenRequest = c.take_open.new.waiting in
     after_same tables q told new o c.after_answer.result (c.in_ok-became.ensures.device ∙ ap (λ (x : OpenRequest). x.device) same)
     (c.in_ok-became.ensures.timer ∙ ap (λ (x : OpenRequest). x.timer) same)
+    (subst (λ (x : OpenRequest). most_repetitions new.task.task ≤ most_repetitions x.task.task) same
+    (c.in_ok-became.ensures.repeats tables q told (subst (λ (x : OpenRequest). TaskStands tables q told x.task.task) (sym same) stands)))
     (c.after_answer.ensures.after new q told asked c.replace-old.ensures.value took.1 took.0)
 
 pub returns-clause-fits : goal.returns-clause-fits

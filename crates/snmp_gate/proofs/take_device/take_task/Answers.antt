@@ -1,6 +1,6 @@
-use Rattle.std.proofs.Common.{subst, sym}
+use Rattle.std.proofs.Common.{subst, sym, ◌≤◌}
 use Rattle.snmp_gate.specs.Ends.{FailsOrGoesOn}
-use Rattle.snmp_gate.specs.Work.{BulkAskStands, ReadStands, SaysAll, TaskHas, TaskStands, request_of_task}
+use Rattle.snmp_gate.specs.Work.{BulkAskStands, ReadStands, SaysAll, TaskHas, TaskStands, most_repetitions, request_of_task}
 use Rattle.snmp_gate.specs.declared.task.Task.{Task}
 use Rattle.snmp_gate.proofs.Endings.{fails_end, set_taken}
 use Rattle.snmp_gate.proofs.Telling.{no_bulk, no_read}
@@ -32,3 +32,10 @@ returns-in-Set-clause-stands c tables q told viewer says stands =
     let all = subst (λ (t : Task). SaysAll (request_of_task q t) c.args.answer.now told) c.in-Set.is says in
     let known = subst (TaskStands tables q told) c.in-Set.is stands in
     (subst (TaskHas tables q told) (sym c.in-Set.is) known, set_taken tables q told c.args.answer.now c.take_set.result all known c.take_set.ensures)
+
+pub returns-in-Bulk-clause-repeats : goal.returns-in-Bulk-clause-repeats
+returns-in-Bulk-clause-repeats c =
+    on_ok c.take_bulk.result _ _ (λ taken fewer tables q told stands.
+    let known : BulkAskStands tables q told c.in-Bulk.field-0 c.in-Bulk.dialogue = subst (TaskStands tables q told) c.in-Bulk.is stands in
+    subst (λ (t : Task). c.take_bulk.new.dialogue.repetitions ≤ most_repetitions t) (sym c.in-Bulk.is) (fewer c.in-Bulk.field-0 known.asked))
+    c.take_bulk.ensures.repeats

@@ -52,8 +52,8 @@ returns-in_default-clause-rows g c =
     (refuses TooLarge (too_large c.args.users.now.users m e.level (flags_at e.level) (level_at e.level e.id e.reportable) c.in_ok-supports.ensures
     (c.sealed_size.ensures.least c.args.users.now.users m) c.in_default.ensures.none))
 
-pub returns-then-not-is_within-clause-rows : goal.returns-then-not-is_within-clause-rows
-returns-then-not-is_within-clause-rows g c =
+pub returns-then-not-has_room-clause-rows : goal.returns-then-not-has_room-clause-rows
+returns-then-not-has_room-clause-rows g c =
     let e = c.args.envelope.now in
     let users = c.args.users.now.users in
     let vs = map g.B.Spelled.says c.args.bindings.now in
@@ -61,7 +61,6 @@ returns-then-not-is_within-clause-rows g c =
     let ok : IsSealable users m = sealable users m e.level (flags_at e.level) (level_at e.level e.id e.reportable) c.in_ok-supports-2.ensures in
     let salt : length e.salt ≡ 8 = search rules in
     let scoped = rw (c.in-Some.ensures.front, c.in-Some.ensures.bindings) at c.in-Some.ensures.fits.element in
-    let size = rw (c.in-Some.ensures.bindings) at c.in-Some.ensures.fits.list in
     let fits : SendingFits m = record {
       header = record { id = e.id_fits; least_size = omega arith; most_size = omega arith; least_model = omega arith; most_model = omega arith };
       boots = c.requires.pair.boots;
@@ -72,8 +71,8 @@ returns-then-not-is_within-clause-rows g c =
       scoped = scoped;
     } in
     let some = c.some_sealed.ensures users m fits ok in
-    let beyond = c.if-not-is_within.ensures.no refl vs (sym size) in
-    rw c.plain-then-not-is_within.ensures.refusal
+    let beyond = rw (c.in-Some.ensures.front, c.in-Some.ensures.bindings) at (c.if-not-has_room.ensures.no refl) in
+    rw c.plain-then-not-has_room.ensures.refusal
     (cut_beyond users m c.args.limit (c.one_sealed.ensures users m) some.0 some.1 ok (subst (λ (n : ℕ). IsBeyond users n m) c.room.ensures.is beyond))
 
 pub returns-clause-rows : goal.returns-clause-rows
@@ -82,9 +81,8 @@ returns-clause-rows g c =
     let users = c.args.users.now.users in
     let vs = map g.B.Spelled.says c.args.bindings.now in
     let m = sent_with e (scoped_after c.args.front.now vs) in
-    let size = rw (c.in-Some.ensures.bindings) at c.in-Some.ensures.fits.list in
     let rows : IfSome (seal_answer c.seal_of.result) (Seals users m) = search rules in
-    let within = c.if-not-is_within.ensures.yes refl vs (sym size) in
+    let within = rw (c.in-Some.ensures.front, c.in-Some.ensures.bindings) at (c.if-not-has_room.ensures.yes refl) in
     cut_within users m c.args.limit (seal_answer c.seal_of.result) (subst (λ (n : ℕ). IsWithin users n m) c.room.ensures.is within) (omega (arith, c.room.ensures.is, c.room.ensures.least)) rows
 
 pub returns-clause-sealed : goal.returns-clause-sealed
@@ -122,7 +120,6 @@ returns-clause-counted g c is beyond =
     let ok : IsSealable users m = memory is in
     let salt : length e.salt ≡ 8 = search rules in
     let scoped = rw (c.in-Some.ensures.front, c.in-Some.ensures.bindings) at c.in-Some.ensures.fits.element in
-    let size = rw (c.in-Some.ensures.bindings) at c.in-Some.ensures.fits.list in
     let fits : SendingFits m = record {
       header = record { id = e.id_fits; least_size = omega arith; most_size = omega arith; least_model = omega arith; most_model = omega arith };
       boots = c.requires.pair.boots;
@@ -133,7 +130,7 @@ returns-clause-counted g c is beyond =
       scoped = scoped;
     } in
     let some = c.some_sealed.ensures users m fits ok in
-    let within = subst (λ (n : ℕ). IsWithin users n m) c.room.ensures.is (c.if-not-is_within.ensures.yes refl vs (sym size)) in
+    let within = subst (λ (n : ℕ). IsWithin users n m) c.room.ensures.is (rw (c.in-Some.ensures.front, c.in-Some.ensures.bindings) at (c.if-not-has_room.ensures.yes refl)) in
     let short = within some.0 some.1 in
     let long = beyond some.0 some.1 in
     absurd (omega (arith, short, long))

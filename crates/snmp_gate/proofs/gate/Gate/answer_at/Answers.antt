@@ -14,6 +14,9 @@ use Rattle.snmp_gate.proofs.GroupSteps.{on_err}
 use Rattle.snmp_gate.proofs.Histories.{IsLeftAfter}
 use Rattle.snmp_gate.proofs.Keeping.{as_before}
 use Rattle.snmp_gate.proofs.SetsGoing.{reply_happens}
+use Rattle.snmp_gate.proofs.Told.{sent_tells}
+use Rattle.snmp_gate.specs.Told.{TellsEnd}
+use Rattle.std.proofs.lemmas.List.Elements.{at_read}
 use Rattle.snmp_gate.proofs.gate.Gate.answer_at.Goals as goal
 
 pub reply_now-requires : goal.reply_now-requires
@@ -25,14 +28,16 @@ returns-clause-happens c since ask_id before later stands =
     let r = c.index-request.result.now in
     let m = c.answer-message.result in
     let left : IsLeftAfter g c.args.place m c.tell_set.new.self = record {
+      engine = ap (λ (a : AgentState). a.engine) c.tell_set.ensures.same.agent ∙ c.in_ok-reply.ensures.same.engine;
       tables = ap (λ (a : AgentState). a.tables) c.tell_set.ensures.same.agent ∙ c.in_ok-reply.ensures.same.tables;
       devices = c.tell_set.ensures.same.devices;
+      limits = c.tell_set.ensures.same.limits;
       next = ap (λ (rs : WaitingRequests WaitingMessage Work). rs.next) c.tell_set.ensures.same.requests ∙ c.answer-message.ensures.next;
       answer = subst (λ (rs : WaitingRequests WaitingMessage Work). IsAnswered (groups_of g.requests.list.items) c.args.place m (groups_of rs.list.items)) (sym c.tell_set.ensures.same.requests) c.answer-message.ensures.answered;
     } in
-    reply_happens g c.tell_set.new.self since c.args.now before c.args.place (fresh c.args.salt ask_id) r m m.client c.in_ok-reply.reply c.sent_by.result later c.requires.place c.index-request.ensures
+    reply_happens g c.tell_set.new.self since c.args.now before c.args.place (fresh c.args.salt ask_id) r m m.client c.end_of-ended.result c.in_ok-reply.reply c.sent_by.result later c.requires.place c.index-request.ensures
     left refl c.in_ok-reply.ensures.sent c.sent_by.ensures.is c.tell_set.ensures.same.asks
-    (subst (λ (s : Option ResponseStatus). IsToldOf m s g.sets.sets.items c.tell_set.new.self.sets.sets.items) c.said_by.ensures c.tell_set.ensures.told) c.in_ok-reply.ensures.short stands
+    (subst (λ (s : Option ResponseStatus). IsToldOf m s g.sets.sets.items c.tell_set.new.self.sets.sets.items) c.said_by.ensures c.tell_set.ensures.told) c.in_ok-reply.ensures.left c.in_ok-reply.ensures.short stands
 
 pub returns-clause-stays : goal.returns-clause-stays
 returns-clause-stays c =
@@ -54,3 +59,9 @@ pub returns-in_err-reply-clause-same : goal.returns-in_err-reply-clause-same
 returns-in_err-reply-clause-same c =
     let g = c.args.self.now in
     on_err c.from_residual.result _ (λ i. record g { agent = c.in_err-reply.ensures.err i })
+
+pub returns-clause-told : goal.returns-clause-told
+returns-clause-told c =
+    let r = c.index-request.result.now in
+    at_read c.args.self.now.requests.list.items (TellsEnd c.sent_by.result) c.args.place r c.requires.place c.index-request.ensures
+    (sent_tells r.number c.answer-message.result.client c.end_of-ended.result c.in_ok-reply.reply c.sent_by.result r c.sent_by.ensures.is refl c.end_of-ended.ensures)

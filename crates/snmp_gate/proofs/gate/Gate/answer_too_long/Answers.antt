@@ -1,6 +1,7 @@
 use Rattle.std.proofs.Common.{arith, ◌≡◌, ◌≤◌, ◌∙◌, ℕ, List, ap, inl, refl, subst}
 use Rattle.std.specs.Prelude.{slice_index_or, slice_set}
 use Rattle.std.proofs.lemmas.List.{get_or-set_same, set-get_or, set-set}
+use Rattle.snmp_gate.specs.Causes.{HasResponse}
 use Rattle.snmp_gate.specs.Groups.{IsWorked, groups_of, with_work}
 use Rattle.snmp_gate.specs.History.{Happening}
 use Rattle.snmp_gate.specs.Question.{Question}
@@ -16,29 +17,33 @@ use Rattle.snmp_gate.specs.declared.work.RequestEnd.{RequestEnd}
 use Rattle.snmp_gate.specs.declared.work.Work.{Work}
 use Rattle.snmp_gate.specs.declared.work.Work.TheVariants.{Ends}
 use Rattle.snmp_gate.proofs.Bounded.{agent_same, bounded_worked, stays_on, stays_requests}
+use Rattle.snmp_gate.proofs.Causing.{causes_worked, responds_now}
 use Rattle.snmp_gate.proofs.Histories.{Waiting, ended_all, moved, too_long}
 use Rattle.snmp_gate.proofs.Keeping.{stands_kept}
 use Rattle.snmp_gate.proofs.Same.{work_as_before}
 use Rattle.snmp_gate.proofs.SetsGoing.{ended_outcomes, ended_sets}
 use Rattle.snmp_gate.proofs.Todos.{worked_ended}
+use Rattle.snmp_gate.proofs.Told.{worked_tells}
 use Rattle.snmp_gate.proofs.gate.Gate.answer_too_long.Goals as goal
 
 -- the gateway, where a request ends that can't be asked
-too_long_stands : (g : Gate) (requests : WaitingRequests WaitingMessage Work) (place : ℕ) (was : Work) (e : RequestEnd) → ((q : Question) (told : Said) → EndingStands g.agent.tables q told e) → IsToldFirst e → requests.next ≡ g.requests.next
+too_long_stands : (g : Gate) (requests : WaitingRequests WaitingMessage Work) (place : ℕ) (was : Work) (e : RequestEnd) → ((q : Question) (told : Said) → EndingStands g.agent.tables q told e) → IsToldFirst e → HasResponse e → requests.next ≡ g.requests.next
     → IsWorked (groups_of g.requests.list.items) place was (Ends e) (groups_of requests.list.items) → (since now : ℕ) (before : List Happening) → since ≤ now → GateStands since before g → GateStands now before (record g { requests = requests })
-too_long_stands g requests place was e ends first next worked since now before later stands = record {
+too_long_stands g requests place was e ends first responds next worked since now before later stands = record {
   requests = moved g.agent.tables g.agent.tables g.devices.list.items g.devices.list.items before g.requests.next requests.next (groups_of requests.list.items) (groups_of requests.list.items) refl refl next refl
       (ended_all g.agent.tables g.devices.list.items before g.requests.next (groups_of g.requests.list.items) (groups_of requests.list.items) place was e ends worked stands.requests);
   asks = stands.asks;
   sets = ended_sets since now before (groups_of g.requests.list.items) (groups_of requests.list.items) place was e g.sets.sets.items later worked stands.sets;
   outcomes = ended_outcomes before (groups_of g.requests.list.items) (groups_of requests.list.items) place was e g.sets.sets.items first worked stands.outcomes;
+  causes = causes_worked g.limits g.agent.engine g.agent.tables g.devices.list.items before (groups_of g.requests.list.items) (groups_of requests.list.items) place was (Ends e) worked
+      (λ n q. responds_now g.limits g.agent.engine g.agent.tables g.devices.list.items before n q (Ends e) responds) stands.causes;
 }
 
 -- what happens is the same, where only requests changed before
 send_same : (g : Gate) (requests : WaitingRequests WaitingMessage Work) (now : ℕ) (before : List Happening) (f : Fresh) (what : Sent) (new : Gate) → SendHappens (record g { requests = requests }) now before f what new → SendHappens g now before f what new
-send_same g requests now before f (out.ToClient n to says w) new h = (h.0, h.1, record { lawful = h.2.lawful; allowed = h.2.allowed; stands = h.2.stands })
-send_same g requests now before f (out.ToDevice n to w) new h = (h.0, h.1, h.2, record { lawful = h.3.lawful; allowed = h.3.allowed; stands = h.3.stands })
-send_same g requests now before f (out.Unanswered n why) new h = (h.0, record { lawful = h.1.lawful; allowed = h.1.allowed; stands = h.1.stands })
+send_same g requests now before f (out.ToClient n to says w ended) new h = (h.0, h.1, record { lawful = h.2.lawful; allowed = h.2.allowed; stands = h.2.stands })
+send_same g requests now before f (out.ToDevice n to w again) new h = (h.0, h.1, h.2, record { lawful = h.3.lawful; allowed = h.3.allowed; stands = h.3.stands })
+send_same g requests now before f (out.Unanswered n why ended) new h = (h.0, record { lawful = h.1.lawful; allowed = h.1.allowed; stands = h.1.stands })
 send_same g requests now before f (out.GivenUp n to) new h = record { lawful = h.lawful; allowed = h.allowed; stands = h.stands }
 send_same g requests now before f out.Nothing new h = h
 
@@ -57,7 +62,7 @@ pub returns-in-Ok-clause-happens : goal.returns-in-Ok-clause-happens
 returns-in-Ok-clause-happens c since ask_id before later stands =
     let g = c.args.self.now in
     send_same g c.work-before.new.self c.args.now before (fresh c.args.salt ask_id) c.in-Ok.sent c.answer_at.new.self (c.in-Ok.ensures.happens c.args.now ask_id before (omega arith)
-    (too_long_stands g c.work-before.new.self c.args.place c.work-before.result _ (too_long g.agent.tables) tt c.work-before.ensures.next c.work-before.ensures.worked since c.args.now before later stands))
+    (too_long_stands g c.work-before.new.self c.args.place c.work-before.result _ (too_long g.agent.tables) tt tt c.work-before.ensures.next c.work-before.ensures.worked since c.args.now before later stands))
 
 pub returns-in-Ok-clause-stays : goal.returns-in-Ok-clause-stays
 returns-in-Ok-clause-stays c =
@@ -91,6 +96,10 @@ returns-in-Err-clause-err c =
       work = work_as_before (groups_of g.requests.list.items) (groups_of c.work.new.self.list.items) groups;
       next = next;
       sets = inl sets;
-      stands = stands_kept c.args.now g (record c.answer_at.new.self { requests = c.work.new.self }) (ap (λ (x : Gate). x.agent.tables) is) (ap (λ (x : Gate). x.devices) is) asks groups next
+      stands = stands_kept c.args.now g (record c.answer_at.new.self { requests = c.work.new.self }) (ap (λ (x : Gate). x.limits) is) (ap (λ (x : Gate). x.agent.engine) is) (ap (λ (x : Gate). x.agent.tables) is) (ap (λ (x : Gate). x.devices) is) asks groups next
           (inl sets);
     }
+
+pub returns-in-Ok-clause-told : goal.returns-in-Ok-clause-told
+returns-in-Ok-clause-told c =
+    worked_tells c.args.self.now.requests.list.items c.work-before.new.self.list.items c.args.place c.work-before.result _ c.in-Ok.sent c.work-before.ensures.worked refl c.requires.goes_on c.in-Ok.ensures.told

@@ -1,4 +1,4 @@
-use Rattle.std.proofs.Common.{◌∷◌, inr, refl, slice_index_or, arith}
+use Rattle.std.proofs.Common.{◌∷◌, inr, refl, slice_index_or, sym, arith}
 use Rattle.snmp_gate.specs.Groups.{groups_of}
 use Rattle.snmp_gate.specs.History.{asked}
 use Rattle.snmp_gate.proofs.AsksKept.{asks_again, long_lists}
@@ -12,8 +12,9 @@ use Rattle.snmp_gate.specs.Noting.{AsksSet}
 use Rattle.snmp_gate.specs.declared.requests.WaitingRequest.{WaitingRequest}
 use Rattle.snmp_gate.specs.declared.waiting_message.WaitingMessage.{WaitingMessage}
 use Rattle.snmp_gate.specs.declared.work.Work.{Work}
-use Rattle.snmp_gate.proofs.SetsGoing.{asked_before, asked_once, asked_outcomes, asked_sets, no_set_never}
+use Rattle.snmp_gate.proofs.SetsGoing.{asked_before, asked_causes, asked_once, asked_outcomes, asked_sets, no_set_never}
 use Rattle.snmp_gate.proofs.Todos.{may_again, tried_less, open_again}
+use Rattle.snmp_gate.proofs.Told.{asked_now}
 use Rattle.snmp_gate.proofs.gate.Gate.ask_again_at.Goals as goal
 
 pub returns-clause-happens : goal.returns-clause-happens
@@ -53,6 +54,7 @@ returns-clause-happens c since before f later stands =
           asks = again.0;
           sets = asked_sets g.agent.tables g.devices.list.items before g.requests.next rs new place device n id datagram.items all.request c.requires.place opened sets stands.requests since c.args.now g.sets.sets.items later stands.sets;
           outcomes = asked_outcomes g.agent.tables g.devices.list.items before g.requests.next rs new place device n id datagram.items all.request c.requires.place opened sets stands.requests g.sets.sets.items stands.outcomes;
+          causes = asked_causes g.agent.tables g.devices.list.items before g.requests.next rs new place device n id datagram.items all.request c.requires.place opened sets stands.requests g.limits g.agent.engine stands.causes;
         };
       },
     )
@@ -89,3 +91,8 @@ returns-then-device-len-clause-happens c since before f later stands = c.give_up
 
 pub returns-in_default-2-clause-happens : goal.returns-in_default-2-clause-happens
 returns-in_default-2-clause-happens c since before f later stands = c.give_up_at-in_default-2.ensures.happens since c.args.now before f later stands
+
+pub returns-clause-told : goal.returns-clause-told
+returns-clause-told c r =
+    let asked = c.in-Some.ensures.1 r in
+    (sym (c.device_at-device.ensures r).0, (λ is. asked_now (slice_index_or c.args.self.now.requests.list.items c.args.place r).work asked.0 c.in-Some.id asked.1 asked.2, λ now. refl))

@@ -21,10 +21,12 @@ use Rattle.snmp_gate.proofs.AsksKept.{asks_asked, asks_of_asked, free_again, fre
 use Rattle.snmp_gate.proofs.Histories.{asked_all, asked_so_far, moved}
 use Rattle.snmp_gate.proofs.Keeping.{stands_kept, stays_as_before}
 use Rattle.snmp_gate.proofs.Same.{work_as_before}
-use Rattle.snmp_gate.proofs.SetsGoing.{asked_once, asked_outcomes, asked_sets, unasked_never}
+use Rattle.snmp_gate.proofs.SetsGoing.{asked_causes, asked_once, asked_outcomes, asked_sets, unasked_never}
 use Rattle.snmp_gate.specs.Waiting.{AsksStand, asks_in, fresh}
 use Rattle.snmp_gate.specs.declared.asks.TheConstants.{REQUEST_IDS}
 use Rattle.snmp_gate.proofs.Sending.{on_ok}
+use Rattle.snmp_gate.proofs.Told.{unasked_before}
+use Rattle.std.proofs.lemmas.Bool.{false≢true}
 use Rattle.snmp_gate.proofs.gate.Gate.ask_at.Goals as goal
 
 -- what is read twice is the same
@@ -99,6 +101,7 @@ returns-clause-happens c since before later stands =
           asks = subst (AsksStand (asked n device id all.request datagram.items ∷ before)) (sym now_in) asks;
           sets = asked_sets g.agent.tables g.devices.list.items before g.requests.next rs new place device n id datagram.items all.request c.requires.place opened sets stands.requests since c.args.now g.sets.sets.items later stands.sets;
           outcomes = asked_outcomes g.agent.tables g.devices.list.items before g.requests.next rs new place device n id datagram.items all.request c.requires.place opened sets stands.requests g.sets.sets.items stands.outcomes;
+          causes = asked_causes g.agent.tables g.devices.list.items before g.requests.next rs new place device n id datagram.items all.request c.requires.place opened sets stands.requests g.limits g.agent.engine stands.causes;
         };
       },
     )
@@ -157,7 +160,7 @@ returns-in_err-ask-clause-err c =
       work = work_as_before (groups_of c.args.self.now.requests.list.items) (groups_of c.args.self.now.requests.list.items) refl;
       next = refl;
       sets = inl refl;
-      stands = stands_kept c.args.now c.args.self.now _ refl refl
+      stands = stands_kept c.args.now c.args.self.now _ refl refl refl refl
           (map-set_same (λ (a : DeviceAsks). a.asks.items) asks c.device_at-device.result.0 c.ask.new.self c.index_mut.result.now
           (c.in_err-ask.ensures.err ∙ ap (λ (a : DeviceAsks). a.asks.items) c.index_mut.ensures.value))
           refl refl (inl refl);
@@ -165,3 +168,10 @@ returns-in_err-ask-clause-err c =
 
 pub returns-in_err-datagram-clause-err : goal.returns-in_err-datagram-clause-err
 returns-in_err-datagram-clause-err c = on_err c.from_residual.result _ (stays_as_before c.args.now c.args.self.now)
+
+pub returns-clause-told : goal.returns-clause-told
+returns-clause-told c r =
+    (sym (c.device_at-device.ensures r).0, (λ is. absurd (false≢true is), λ asked. absurd (unasked_before c.args.self.now.limits c.args.self.now.asks.items c.args.now (slice_index_or c.args.self.now.requests.list.items c.args.place r).work (c.requires.due r) asked)))
+
+pub answer_too_long-requires-clause-goes_on : goal.answer_too_long-requires-clause-goes_on
+answer_too_long-requires-clause-goes_on c r = open_asked c.args.self.now.limits c.args.self.now.asks.items c.args.now (slice_index_or c.args.self.now.requests.list.items c.args.place r).work (c.requires.due r)

@@ -2,10 +2,13 @@ use Rattle.std.proofs.Common.{◌∙◌, refl, ap, arith, inl, inr, subst, sym}
 use Rattle.std.proofs.lemmas.Bool.{false≢true}
 use Rattle.std.proofs.lemmas.Bool.Decides.{leb_tells}
 use Rattle.sha2.specs.Sha256.{sha256}
-use Rattle.std.specs.Prelude.{ℕ, ◌∷◌, ◌≡◌, ◌≢◌, ◌<◌, ◌≤◌, ◌+◌, ◌-◌, ◌^◌, length, min, suc}
+use Rattle.std.specs.Prelude.{All, Some, ℕ, ◌∷◌, ◌≡◌, ◌≢◌, ◌<◌, ◌≤◌, ◌+◌, ◌-◌, ◌^◌, length, min, suc}
 use Rattle.snmp_agent.specs.Agent.{AgentState}
 use Rattle.snmp_gate.specs.Beginning.{BeginsWell}
+use Rattle.snmp_gate.specs.Causes.{EndsFor, IfWorkEnds}
 use Rattle.snmp_gate.specs.Groups.{groups_of}
+use Rattle.snmp_gate.specs.Messages.{question_in}
+use Rattle.snmp_gate.specs.Question.{Question}
 use Rattle.snmp_gate.specs.History.{accepted}
 use Rattle.snmp_gate.specs.Sending.{Requests}
 use Rattle.snmp_gate.specs.Waiting.{IsAsBefore}
@@ -17,13 +20,14 @@ use Rattle.snmp_gate.proofs.GroupSteps.{on_err}
 use Rattle.snmp_gate.proofs.Histories.{moved}
 use Rattle.std.specs.Global.{Vec}
 use Rattle.snmp_gate.specs.Lawful.{IsInTurn}
-use Rattle.snmp_gate.specs.Waiting.{AsksStand, GateStands, OutcomesStand, SetsStand, asks_in}
+use Rattle.snmp_gate.specs.Waiting.{AsksStand, EndsByCause, GateStands, OutcomesStand, SetsStand, asks_in}
 use Rattle.snmp_gate.specs.declared.asks.DeviceAsks.{DeviceAsks}
 use Rattle.snmp_gate.proofs.AsksKept.{asks_same}
 use Rattle.snmp_gate.specs.declared.gate.Gate.{Gate}
 use Rattle.snmp_gate.proofs.Bounded.{agent_same, bounded_begun, new_fresh, stays_forgotten, stays_noted, stays_on, stays_requests, stays_same, stays_twice}
 use Rattle.snmp_gate.proofs.Keeping.{as_before, keeps_again, same_before, stands_later, stands_noted, stays_as_before, unnoted}
 use Rattle.snmp_gate.proofs.SetsComing.{begun_sets, task_asks}
+use Rattle.snmp_gate.proofs.Causing.{causes_begun, causes_later, causes_moved, ends_now}
 use Rattle.snmp_gate.proofs.Repeating.{begun_outcomes}
 use Rattle.snmp_gate.proofs.Joining.{begins_in_turn, begun_all}
 use Rattle.snmp_gate.specs.Untaken.{by_numbers, by_requests}
@@ -38,7 +42,7 @@ below : (n m : ℕ) → (m ≤ n → ⊥) → n < m
 below n m not = elim (leb_tells m n) [ inl (test, le) ↦ absurd (not le) | inr (test, lt) ↦ lt ]
 
 pub returns-in-Ok-clause-takes : goal.returns-in-Ok-clause-takes
-returns-in-Ok-clause-takes c since before datagram later digest stands =
+returns-in-Ok-clause-takes c since before datagram later digest unhandled stands =
     let g = c.args.self.now in
     let n = c.note_asked.new.self in
     let w = c.in-Some.work in
@@ -50,6 +54,7 @@ returns-in-Ok-clause-takes c since before datagram later digest stands =
     let rs = note.requests ∙ first.requests in
     let agent = note.agent ∙ first.agent in
     let devices = note.devices ∙ first.devices in
+    let limits = note.limits ∙ first.limits in
     let same_next = ap (λ (x : WaitingRequests WaitingMessage Work). x.next) rs in
     let groups_same = ap (λ (x : WaitingRequests WaitingMessage Work). groups_of x.list.items) rs in
     let new = groups_of c.begin.new.self.list.items in
@@ -70,22 +75,32 @@ returns-in-Ok-clause-takes c since before datagram later digest stands =
     c.first_work.ensures.sets c.in_default-noted.not-Before c.in_default-noted-2.not-NoRoom c.in_ok-noted.ensures.noted (rw c.in-Some.is at c.in_ok-work.ensures.known) c.in-Ok.ensures.ok requests
     (subst (λ (x : WaitingRequests WaitingMessage Work). OutcomesStand before (groups_of x.list.items) g.sets.sets.items) (sym rs) stands.outcomes) in
     let asks = asks_same (accepted n.requests.next c.args.now datagram m) before (asks_in n.asks.items) (λ k. refl) (subst (λ (v : Vec DeviceAsks). AsksStand before (asks_in v.items)) (sym (note.asks ∙ first.asks)) stands.asks) in
+    let e = accepted n.requests.next c.args.now datagram m in
+    let here = causes_moved g n before (groups_of n.requests.list.items) limits (ap (λ (x : AgentState). x.engine) agent) (ap (λ (x : AgentState). x.tables) agent) devices refl
+    (subst (λ (x : WaitingRequests WaitingMessage Work). All (EndsByCause g.limits g.agent.engine g.agent.tables g.devices.list.items before) (groups_of x.list.items)) (sym rs) stands.causes) in
+    let ends = λ (x : Question) (asked : question_in m ≡ Some x).
+    ends_now n.limits n.agent.engine n.agent.tables n.devices.list.items before n.requests.next x w
+    (subst (λ (a : AgentState). IfWorkEnds (EndsFor a.engine a.tables n.devices.list.items x) w) (sym agent)
+    (subst (λ (d : Devices). IfWorkEnds (EndsFor g.agent.engine g.agent.tables d.list.items x) w) (sym devices)
+    ((rw c.in-Some.is at c.in_ok-work.ensures.ends) x unhandled asked))) in
+    let causes = causes_later n.limits n.agent.engine n.agent.tables n.devices.list.items e before new
+    (causes_begun n.limits n.agent.engine n.agent.tables n.devices.list.items before (groups_of n.requests.list.items) new n.requests.next m w c.in-Ok.ensures.ok ends here) in
     subst (λ (k : ℕ). IsInTurn before (accepted k c.args.now datagram m)
     × GateStands c.args.now (accepted k c.args.now datagram m ∷ before) (record { alloc = n.alloc; agent = n.agent; devices = n.devices; asks = n.asks; limits = n.limits; requests = c.begin.new.self; sets = n.sets })) (sym c.in-Ok.ensures.number)
-    (begins_in_turn before n.requests.next c.args.now datagram m requests.past, record { requests = all; asks = asks; sets = sets; outcomes = outcomes })
+    (begins_in_turn before n.requests.next c.args.now datagram m requests.past, record { requests = all; asks = asks; sets = sets; outcomes = outcomes; causes = causes })
 
 pub returns-then-is_full-clause-takes : goal.returns-then-is_full-clause-takes
-returns-then-is_full-clause-takes c since before datagram later digest stands = stands_later c.args.now c.args.self.now since before later stands
+returns-then-is_full-clause-takes c since before datagram later digest unhandled stands = stands_later c.args.now c.args.self.now since before later stands
 
 pub returns-in_err-work-clause-err : goal.returns-in_err-work-clause-err
 returns-in_err-work-clause-err c = on_err _ _ (same_before c.args.now c.args.self.now c.first_work.new.self c.first_work.ensures.same c.first_work.ensures.sets)
 
 pub returns-in_default-clause-takes : goal.returns-in_default-clause-takes
-returns-in_default-clause-takes c since before datagram later digest stands =
+returns-in_default-clause-takes c since before datagram later digest unhandled stands =
     stands_noted c.args.now c.args.self.now c.first_work.new.self c.first_work.ensures.same c.first_work.ensures.sets since before later stands
 
 pub returns-in-Before-clause-takes : goal.returns-in-Before-clause-takes
-returns-in-Before-clause-takes c since before datagram later digest stands =
+returns-in-Before-clause-takes c since before datagram later digest unhandled stands =
     let g = c.args.self.now in
     let mid = c.first_work.new.self in
     let n = c.note_asked.new.self in
@@ -170,7 +185,7 @@ pub returns-in-NoRoom-clause-stays : goal.returns-in-NoRoom-clause-stays
 returns-in-NoRoom-clause-stays c = stays_twice c.args.self.now c.first_work.new.self c.note_asked.new.self c.first_work.ensures.same c.note_asked.ensures.same
 
 pub returns-in-NoRoom-clause-takes : goal.returns-in-NoRoom-clause-takes
-returns-in-NoRoom-clause-takes c since before datagram later digest stands =
+returns-in-NoRoom-clause-takes c since before datagram later digest unhandled stands =
     let g = c.args.self.now in
     let mid = c.first_work.new.self in
     let n = c.note_asked.new.self in

@@ -15,7 +15,7 @@ returns-clause-happens c since now before f later stands =
     let g = c.args.self.now in
     let new = c.end_ask.new.self in
     gives_up g new since now before c.args.place c.device_at-device.result.1 c.device_at-device.result.0 c.asked_at-asked.result c.work.result c.given_up_at-ending.result later c.requires.place c.device_at-device.ensures c.asked_at-asked.ensures c.given_up_at-ending.ensures
-    (ap (λ (a : AgentState). a.tables) c.end_ask.ensures.same.agent) c.end_ask.ensures.same.devices
+    c.end_ask.ensures.same.limits (ap (λ (a : AgentState). a.engine) c.end_ask.ensures.same.agent) (ap (λ (a : AgentState). a.tables) c.end_ask.ensures.same.agent) c.end_ask.ensures.same.devices
     (ap (λ (rs : WaitingRequests WaitingMessage Work). rs.next) c.end_ask.ensures.same.requests ∙ c.work.ensures.next) c.end_ask.ensures.same.sets
     (subst (λ (rs : WaitingRequests WaitingMessage Work). IsWorked (groups_of g.requests.list.items) c.args.place c.work.result (Ends c.given_up_at-ending.result) (groups_of rs.list.items)) (sym c.end_ask.ensures.same.requests) c.work.ensures.worked)
     c.end_ask.ensures.ends stands
@@ -29,3 +29,6 @@ returns-clause-stays c =
     (λ b. subst (AreBounded g.limits) (sym same.requests)
     (bounded_worked g.limits g.requests c.work.new.self c.work.ensures.most c.work.ensures.most_messages c.args.place c.work.result (Ends c.given_up_at-ending.result) c.work.ensures.worked tt b))
     c.end_ask.ensures.bounded
+
+pub returns-clause-told : goal.returns-clause-told
+returns-clause-told c r = sym (c.device_at-device.ensures r).0

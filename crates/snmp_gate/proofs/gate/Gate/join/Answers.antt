@@ -1,5 +1,5 @@
 use Rattle.std.proofs.Common.{arith, ap, HoldsAt, refl, subst, sym, ◌∙◌}
-use Rattle.std.specs.Prelude.{List, ◌∷◌, ◌≡◌, ◌<◌, length}
+use Rattle.std.specs.Prelude.{All, List, ◌∷◌, ◌≡◌, ◌<◌, length}
 use Rattle.snmp_gate.specs.Beginning.{MayBeJoined}
 use Rattle.snmp_gate.specs.Groups.{Group, group_of, groups_of}
 use Rattle.snmp_gate.specs.History.{accepted}
@@ -11,9 +11,10 @@ use Rattle.snmp_gate.specs.declared.requests.WaitingRequest.{WaitingRequest}
 use Rattle.snmp_gate.specs.declared.waiting_message.WaitingMessage.{WaitingMessage}
 use Rattle.snmp_gate.specs.declared.work.Work.{Work}
 use Rattle.std.specs.Global.{Vec}
-use Rattle.snmp_gate.specs.Waiting.{AsksStand, OutcomesStand, SetsStand, asks_in}
+use Rattle.snmp_gate.specs.Waiting.{AsksStand, EndsByCause, OutcomesStand, SetsStand, asks_in}
 use Rattle.snmp_gate.specs.declared.asks.DeviceAsks.{DeviceAsks}
 use Rattle.snmp_gate.proofs.AsksKept.{asks_same}
+use Rattle.snmp_gate.proofs.Causing.{causes_joined, causes_later, causes_moved}
 use Rattle.snmp_gate.proofs.GroupSteps.{group_at, on_err}
 use Rattle.std.proofs.lemmas.List.{get_or_default}
 use Rattle.snmp_gate.proofs.Histories.{moved}
@@ -60,6 +61,11 @@ returns-in-Ok-Joined-clause-takes c since before datagram later digest stands =
         outcomes = joined_outcomes n.requests.most_messages r.number c.args.now place datagram m before (groups_of rs) new g.sets.sets.items n.sets.sets.items digest (rw c.in-New.is at c.in_ok-note_again.ensures.noted) joins
             (λ y at. subst (λ (x : Group WaitingMessage Work). MayBeJoined x.work) (sym (at.group_is ∙ get_or_default (groups_of rs) place y (group_of r) at.within ∙ sym (group_at rs place r within c.index.ensures).group_is)) (subst (λ (x : WaitingRequest WaitingMessage Work). MayBeJoined x.work) (sym c.index.ensures) (same r).1))
             (subst (λ (x : WaitingRequests WaitingMessage Work). OutcomesStand before (groups_of x.list.items) g.sets.sets.items) (sym note.requests) stands.outcomes);
+        causes = (let e = accepted r.number c.args.now datagram m in
+            let here = causes_moved g n before (groups_of rs) note.limits (ap (λ (x : AgentState). x.engine) note.agent) (ap (λ (x : AgentState). x.tables) note.agent) note.devices refl
+            (subst (λ (x : WaitingRequests WaitingMessage Work). All (EndsByCause g.limits g.agent.engine g.agent.tables g.devices.list.items before) (groups_of x.list.items)) (sym note.requests) stands.causes) in
+            causes_later n.limits n.agent.engine n.agent.tables n.devices.list.items e before new
+            (causes_joined n.limits n.agent.engine n.agent.tables n.devices.list.items before n.requests.most_messages rs place r m new within c.index.ensures asks joins here));
       },
     )
 

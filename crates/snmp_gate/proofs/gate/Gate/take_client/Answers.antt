@@ -7,6 +7,7 @@ use Rattle.snmp_message.specs.Numbers.{MemoryIs, in_table}
 use Rattle.usm_core.specs.Table.{refusal_answer, refused}
 use Rattle.snmp_agent.specs.Agent.{AgentState, AgentTakes, taker_of}
 use Rattle.snmp_incoming.specs.Outcome.{Given, Outcome}
+use Rattle.snmp_gate.specs.Messages.{question_given}
 use Rattle.snmp_gate.specs.Waiting.{IsAsBefore}
 use Rattle.snmp_gate.specs.declared.gate.Gate.{Gate}
 use Rattle.snmp_gate.proofs.Bounded.{agent_same, stays_counted, stays_on}
@@ -20,6 +21,10 @@ use Rattle.snmp_gate.proofs.gate.Gate.take_client.Goals as goal
 same_tables : (old new : AgentState) (now : ℕ) (w : List ℕ) (a : Option (Result Given Refusal)) → AgentTakes old now w a new → new.tables ≡ old.tables
 same_tables old new now w None is = ap (λ (x : AgentState). x.tables) is
 same_tables old new now w (Some answer) is = ap (λ (x : AgentState). x.tables) is.1
+
+same_engine : (old new : AgentState) (now : ℕ) (w : List ℕ) (a : Option (Result Given Refusal)) → AgentTakes old now w a new → new.engine ≡ old.engine
+same_engine old new now w None is = ap (λ (x : AgentState). x.engine) is
+same_engine old new now w (Some answer) is = ap (λ (x : AgentState). x.engine) is.1
 
 same_agent : (old new : AgentState) (now : ℕ) (w : List ℕ) (why : Refusal) → in_table why ≡ None → AgentTakes old now w (refusal_answer why) new → new ≡ old
 same_agent old new now w why memory is = subst (λ (r : Option Refusal). AgentTakes old now w (refused r) new) memory is
@@ -38,7 +43,7 @@ returns-in-Some-clause-happens c =
     let takes = c.in-Ok.ensures.takes in
     let accepts = subst (λ (x : Given). Outcome (taker_of g.agent) g.agent.users (c.args.now / 1000) c.args.datagram.now (Ok x)) (sym c.in_ok-message.ensures.is.1) takes.0 in
     message_happens g c.join.new.self c.args.now c.args.client.now c.args.datagram.now m mid c.join.result c.in_ok-message.ensures.is.0 accepts c.in_ok-message.ensures.digest
-    (same_stands g mid takes.1 refl refl refl refl) c.join.ensures.takes
+    (same_stands g mid refl takes.1 refl refl refl refl) c.join.ensures.takes
 
 pub returns-in-None-clause-happens : goal.returns-in-None-clause-happens
 returns-in-None-clause-happens c =
@@ -48,7 +53,9 @@ returns-in-None-clause-happens c =
     let takes = c.in-Ok.ensures.takes in
     let accepts = subst (λ (x : Given). Outcome (taker_of g.agent) g.agent.users (c.args.now / 1000) c.args.datagram.now (Ok x)) (sym c.in_ok-message.ensures.is.1) takes.0 in
     message_happens g c.begin.new.self c.args.now c.args.client.now c.args.datagram.now m mid c.begin.result c.in_ok-message.ensures.is.0 accepts c.in_ok-message.ensures.digest
-    (same_stands g mid takes.1 refl refl refl refl) c.begin.ensures.takes
+    (same_stands g mid refl takes.1 refl refl refl refl)
+    (on_ok c.begin.result _ _ (λ taken takes_in since before w later digest stood. takes_in since before w later digest
+    (λ q asked. c.unhandled_by-unhandled.ensures g.devices.list.items m.client.items q (ap (question_given m.client.items) (sym c.in_ok-message.ensures.is.1) ∙ asked)) stood) c.begin.ensures.takes)
 
 pub returns-in-Some-clause-err : goal.returns-in-Some-clause-err
 returns-in-Some-clause-err c =
@@ -73,7 +80,7 @@ returns-in-Err-clause-err c =
 pub returns-in-Err-2-clause-happens : goal.returns-in-Err-2-clause-happens
 returns-in-Err-2-clause-happens c since before later stands =
     let g = c.args.self.now in
-    stands_kept c.args.now g (record g { agent = c.take.new.self }) (same_tables g.agent c.take.new.self (c.args.now / 1000) c.args.datagram.now (refusal_answer c.in-Err.refused.why.refusal) c.in-Err.ensures.takes) refl refl refl refl
+    stands_kept c.args.now g (record g { agent = c.take.new.self }) refl (same_engine g.agent c.take.new.self (c.args.now / 1000) c.args.datagram.now (refusal_answer c.in-Err.refused.why.refusal) c.in-Err.ensures.takes) (same_tables g.agent c.take.new.self (c.args.now / 1000) c.args.datagram.now (refusal_answer c.in-Err.refused.why.refusal) c.in-Err.ensures.takes) refl refl refl refl
     (inl refl) since before later stands
 
 pub returns-in_err-message-clause-err : goal.returns-in_err-message-clause-err

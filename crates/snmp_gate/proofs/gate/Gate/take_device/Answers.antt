@@ -11,6 +11,7 @@ use Rattle.snmp_gate.specs.declared.waiting_message.WaitingMessage.{WaitingMessa
 use Rattle.snmp_gate.specs.declared.work.OpenRequest.{OpenRequest}
 use Rattle.snmp_gate.specs.declared.work.Work.{Work}
 use Rattle.snmp_gate.specs.declared.work.Work.TheVariants.{Open, Ends}
+use Rattle.snmp_gate.proofs.Causing.{causes_after}
 use Rattle.snmp_gate.proofs.Bounded.{agent_same, asks_set, bounded_set, ended_few, fresh_timely, same_timely, stays_of, stays_requests}
 use Rattle.snmp_gate.proofs.GroupSteps.{on_err}
 use Rattle.snmp_gate.proofs.Histories.{answered_all}
@@ -62,6 +63,8 @@ returns-clause-happens c since before later stands =
           sets = answered_sets since c.args.now r.number c.args.device (pdu_of c.in-Some.answer.pdu) c.args.datagram.now before rs place r s g.sets.sets.items later at.within c.index_mut-request.ensures.value refl c.in_ok-fault.ensures.no_set stands.sets;
           outcomes = answered_outcomes r.number c.args.device (pdu_of c.in-Some.answer.pdu) c.args.datagram.now before rs place r s g.sets.sets.items at.within c.index_mut-request.ensures.value
               (let o = opened c.args.device id r.work waits in c.in_ok-fault.ensures.first o.0 o.1) stands.outcomes;
+          causes = causes_after g.limits g.agent.engine g.agent.tables g.devices.list.items now before rs place s
+              (let o = opened c.args.device id r.work waits in c.in_ok-fault.ensures.responds o.0 o.1) stands.causes;
         };
       },
     )
@@ -89,7 +92,7 @@ returns-in_err-fault-clause-err c =
       work = work_says_same_at rs place r s c.in-Some-place_of.ensures.place.within c.index_mut-request.ensures.value c.in_err-fault.ensures.err;
       next = refl;
       sets = inl refl;
-      stands = kept_stands c.args.now g _ place r w refl refl refl refl refl refl c.in-Some-place_of.ensures.place.within c.index_mut-request.ensures.value c.in_err-fault.ensures.err;
+      stands = kept_stands c.args.now g _ place r w refl refl refl refl refl refl refl c.in-Some-place_of.ensures.place.within c.index_mut-request.ensures.value c.in_err-fault.ensures.err;
     })
 
 pub returns-clause-stays : goal.returns-clause-stays

@@ -12,7 +12,7 @@ use Rattle.snmp_outgoing.specs.Fronts.{front_answer}
 use Rattle.snmp_agent.specs.Responses.{response, responding}
 use Rattle.snmp_agent.proofs.Speeches.{speech_fits}
 use Rattle.snmp_agent.proofs.ResponseFronts.{same_message, fits_by}
-use Rattle.snmp_agent.proofs.response.write_response_front.Goals as goal
+use Rattle.snmp_agent.proofs.response.response_front.Goals as goal
 
 pub returns-clause-rows : goal.returns-clause-rows
 returns-clause-rows g c s p front is_pdu =
@@ -20,7 +20,7 @@ returns-clause-rows g c s p front is_pdu =
     let is = λ (ws : List Variable). ap (sent_with c.envelope-envelope.result) (c.front-front.ensures.scoped s p ws front is_pdu) ∙ c.envelope-envelope.ensures.message s p ws in
     let after = λ (ws : List Variable). sent_with c.envelope-envelope.result (scoped_after c.front-front.result ws) in
     let of = λ (ws : List Variable). responding c.args.engine.now c.args.own (given_of c.args.taken.now) s p c.args.response.now.status c.args.response.now.index ws c.args.response.now.salt in
-    same_message c.args.users.now.users c.args.limit vs after of is (front_answer c.write_front.result) c.write_front.ensures.rows
+    same_message c.args.users.now.users c.args.response.now.limit vs after of is (front_answer c.write_front.result) c.write_front.ensures.rows
 
 pub returns-clause-memory : goal.returns-clause-memory
 returns-clause-memory g c s p front is_pdu memory =

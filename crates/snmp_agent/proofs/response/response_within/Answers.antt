@@ -9,13 +9,13 @@ use Rattle.snmp_agent.specs.Responses.{response}
 use Rattle.snmp_outgoing.specs.Fronts.{IsBeyond, room}
 use Rattle.snmp_outgoing.specs.UpTo.{UpTo}
 use Rattle.snmp_agent.proofs.Speeches.{speech_fits}
-use Rattle.snmp_agent.proofs.response.write_response_within.Goals as goal
+use Rattle.snmp_agent.proofs.response.response_within.Goals as goal
 
 pub returns-clause-rows : goal.returns-clause-rows
 returns-clause-rows g c s p front is_pdu =
     let vs = map g.B.Spelled.says c.args.bindings.now in
     let is = ap (sent_with c.envelope-envelope.result) (c.front-front.ensures.scoped s p vs front is_pdu) ∙ c.envelope-envelope.ensures.message s p vs in
-    subst (λ (m : Sending). IfSome (seal_answer c.write_within.result) (UpTo c.args.limit (Seals c.args.users.now.users m))) is c.write_within.ensures.rows
+    subst (λ (m : Sending). IfSome (seal_answer c.write_within.result) (UpTo c.args.response.now.limit (Seals c.args.users.now.users m))) is c.write_within.ensures.rows
 
 pub returns-clause-sealed : goal.returns-clause-sealed
 returns-clause-sealed g c s p front is_pdu =
@@ -44,4 +44,4 @@ pub returns-clause-counted : goal.returns-clause-counted
 returns-clause-counted g c s p front is_pdu memory beyond =
     let vs = map g.B.Spelled.says c.args.bindings.now in
     let is = ap (sent_with c.envelope-envelope.result) (c.front-front.ensures.scoped s p vs front is_pdu) ∙ c.envelope-envelope.ensures.message s p vs in
-    c.write_within.ensures.counted memory (subst (IsBeyond c.args.users.now.users (room c.args.limit)) (sym is) beyond)
+    c.write_within.ensures.counted memory (subst (IsBeyond c.args.users.now.users (room c.args.response.now.limit)) (sym is) beyond)
