@@ -6,7 +6,7 @@
 -- `TakesTrap`, `TakesReceiver`, `SendsOn`: what becomes of a datagram of a device and of one of a receiver, and what
 -- goes out, each a step of a notification originator (`OriginatorSteps`) with what is reported of it. `RunsOut`: there
 -- was no memory. `EmptiesForwarder`: all is given back.
-use Rattle.std.specs.Prelude.{◌≡◌, ◌≤◌, ◌⊎◌, ⊤, ℕ, List, [], ◌∷◌, All, length, map, Option, Some, None, Result}
+use Rattle.std.specs.Prelude.{◌≡◌, ◌≤◌, ◌⊎◌, ⊤, ℕ, List, [], All, length, map, Option, Some, None, Result}
 use Rattle.std.specs.Prelude.{Ok, Err}
 use Rattle.std.specs.FinMap as finite_map
 use Rattle.engine_clock.specs.Pairs.{pair_max}
@@ -46,6 +46,7 @@ use Rattle.snmp_handles.specs.declared.fault.CallFault.{CallFault}
 use Rattle.snmp_handles.specs.declared.fault.CallFault.TheVariants.{Refused}
 use Rattle.gate_handles.specs.Gates.{IsEmptyAgent, RefusesGate, device_parts, device_said}
 use Rattle.gate_handles.specs.declared.forward_event.ForwardEvent.{ForwardEvent}
+use Rattle.gate_handles.specs.declared.forward_notes.ForwardInfo.{ForwardInfo}
 use Rattle.gate_handles.specs.declared.forward_event.ForwardEvent.TheVariants as event
 use Rattle.gate_handles.specs.declared.making.TheConstants.{INFORMS_LIMIT}
 
@@ -233,7 +234,7 @@ pub record SentOn (old : ForwardHeld) (now : ℕ) (salt : List ℕ) (ask_id : �
 abbrev pub SendsOn : ForwardHeld → ℕ → List ℕ → ℕ → Result ForwardEvent CallFault → ForwardHeld → Type 0
 SendsOn old now salt ask_id told new = SentOn old now salt ask_id told new ⊎ RunsOut old told new
 
--- ---- numbers
+-- ---- the last call
 
 -- what was sent for an Inform: 1 the discovery, 2 the request for the time of the receiver's engine, 3 the Inform
 -- itself; 0 nothing
@@ -243,12 +244,17 @@ message_number (Some Discovery) = 1
 message_number (Some TimeRequest) = 2
 message_number (Some Request) = 3
 
--- the notification and the receiver that the last call was about, and how many notifications wait; the Inform that it
--- was about, and how many wait; what was sent for it, and the counter that its receiver's engine reported
-abbrev pub forward_numbers_of : ForwardHeld → List ℕ
-forward_numbers_of held = held.noted.number ∷ held.noted.receiver
-    ∷ length held.originator.forwarder.waiting.list.items ∷ held.noted.inform
-    ∷ length held.originator.informs.list.items ∷ message_number held.noted.sent ∷ held.noted.counter ∷ []
+-- what the last call was about, and how many notifications and Informs wait
+abbrev pub forward_info_of : ForwardHeld → ForwardInfo
+forward_info_of held = record {
+  notification = held.noted.number;
+  inform = held.noted.inform;
+  receiver = held.noted.receiver;
+  waiting = length held.originator.forwarder.waiting.list.items;
+  informs = length held.originator.informs.list.items;
+  message = message_number held.noted.sent;
+  counter = held.noted.counter;
+}
 
 -- ---- giving back
 

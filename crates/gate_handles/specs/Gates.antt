@@ -26,6 +26,7 @@ use Rattle.snmp_gate.specs.Fits.{IsFitTold}
 use Rattle.snmp_gate.specs.Hidden.{IsHiddenTold}
 use Rattle.snmp_gate.specs.RequestTags.{IsNumberOfNone, IsTagOf}
 use Rattle.snmp_gate.specs.Runs as runs
+use Rattle.snmp_gate.specs.Told.{IsSentTold}
 use Rattle.snmp_gate.specs.Untaken.{HasCause}
 use Rattle.snmp_gate.specs.Waiting.{Fresh, GateStands, IsAsBefore, IsRefusedBy, Stays, fresh}
 use Rattle.snmp_gate.specs.declared.devices.Device.{Device}
@@ -274,12 +275,12 @@ TakesDevice old now number datagram told new = KeepsSaid old new
 -- ---- what goes out
 
 abbrev pub TellsSent : Sent → Result GateEvent CallFault → GateHeld → Type 0
-TellsSent (out.ToClient number to says datagram) told new = (told ≡ Ok event.ToClient) × (new.request ≡ number)
-    × Leaves new (Some to.items) (Some datagram.items) (note_to says)
-TellsSent (out.ToDevice number to datagram) told new = (told ≡ Ok event.ToDevice) × (new.request ≡ number)
-    × (new.device ≡ to) × Leaves new None (Some datagram.items) note.Nothing
-TellsSent (out.Unanswered number why) told new = (told ≡ Ok (event.Unanswered why)) × (new.request ≡ number)
-    × IsQuiet new
+TellsSent (out.ToClient number to says datagram ended) told new = (told ≡ Ok event.ToClient) × (new.request ≡ number)
+    × Leaves new (Some to.items) (Some datagram.items) (note_to says ended)
+TellsSent (out.ToDevice number to datagram again) told new = (told ≡ Ok event.ToDevice) × (new.request ≡ number)
+    × (new.device ≡ to) × Leaves new None (Some datagram.items) (note.Asked again)
+TellsSent (out.Unanswered number why ended) told new = (told ≡ Ok (event.Unanswered why)) × (new.request ≡ number)
+    × Leaves new None None (note.Unanswered ended)
 TellsSent (out.GivenUp number to) told new = (told ≡ Ok event.GivenUp) × (new.request ≡ number) × (new.device ≡ to)
     × IsQuiet new
 TellsSent out.Nothing told new = (told ≡ Ok event.Nothing) × IsQuiet new
@@ -291,6 +292,7 @@ pub record Sends (old : GateHeld) (now : ℕ) (f : Fresh) (told : Result GateEve
   pub sent : Sent
   pub tells : TellsSent sent told new
   pub sends : runs.SendsNext old.gate now f sent new.gate
+  pub told_of : IsSentTold old.gate sent
   pub counted : CountsSent old.gate.agent new.gate.agent sent
 
 abbrev pub SendsNext : GateHeld → ℕ → List ℕ → ℕ → Result GateEvent CallFault → GateHeld → Type 0

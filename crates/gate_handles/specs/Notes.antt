@@ -1,20 +1,26 @@
--- What a call on a gateway tells besides its event, by numbers.
+-- What a call on a gateway tells besides its event.
 --
--- `note_to`: of a datagram to a client. `note_numbers`: error-status and error-index of the Response (RFC 3416,
--- section 3), 1 for a Report; of a device's answer the number of what doesn't fit, that of the answer's binding, which
--- counts from 1, and how many of its bindings are hidden; of a client's message the tag of its PDU. The others are 0.
-use Rattle.std.specs.Prelude.{◌+◌, ◌-◌, ◌^◌, ℕ, ℤ, pos, negsuc, min, List, [], ◌∷◌, Option, Some, None}
+-- `note_to`: of a datagram to a client. `tells_note`: error-status and error-index of the Response (RFC 3416, section
+-- 3), or that it is a Report, and how the request ended (`ends_so`); whether a device is asked the same again; of a
+-- device's answer the number of what doesn't fit, that of the answer's binding, which counts from 1, and how many of
+-- its bindings are hidden; of a client's message the tag of its PDU.
+use Rattle.std.specs.Prelude.{◌+◌, ◌-◌, ◌^◌, ℕ, ℤ, pos, negsuc, min, true, Option, Some, None}
 use Rattle.snmp_walk.specs.declared.answer.AnswerFault.{AnswerFault}
 use Rattle.snmp_walk.specs.declared.answer.AnswerFault.TheVariants.{AtBinding, TooFew, TooMany}
 use Rattle.snmp_walk.specs.declared.misfit.Misfit.{Misfit}
 use Rattle.snmp_walk.specs.declared.misfit.Misfit.TheVariants.{AfterEnd, NotAfter, NotValue, OtherName}
+use Rattle.snmp_agent.specs.declared.unhandled.Unhandled.TheVariants.{NoRequest, UnknownPduHandlers}
+use Rattle.snmp_agent.specs.declared.unhandled.Unhandled.TheVariants.{UnavailableContexts, UnknownContexts}
 use Rattle.snmp_gate.specs.declared.set_answer.ResponseStatus.{ResponseStatus}
+use Rattle.snmp_gate.specs.declared.work.EndedBy.{EndedBy}
+use Rattle.snmp_gate.specs.declared.work.EndedBy.TheVariants as ended
+use Rattle.gate_handles.specs.declared.note.GateInfo.{GateInfo}
 use Rattle.gate_handles.specs.declared.note.GateNote.{GateNote}
 use Rattle.gate_handles.specs.declared.note.GateNote.TheVariants as note
 
-abbrev pub note_to : Option ResponseStatus → GateNote
-note_to (Some says) = note.Response says
-note_to None = note.Report
+abbrev pub note_to : Option ResponseStatus → EndedBy → GateNote
+note_to (Some says) ended = note.Response says ended
+note_to None ended = note.Report ended
 
 -- the tag of a PDU, or 0 if there is none
 abbrev pub tag_number : Option ℕ → ℕ
@@ -42,10 +48,33 @@ fault_numbers (Some TooFew) = (1, 0)
 fault_numbers (Some TooMany) = (2, 0)
 fault_numbers (Some (AtBinding place misfit)) = (misfit_number misfit, binding_number place)
 
-abbrev pub note_numbers : GateNote → List ℕ
-note_numbers note.Nothing = 0 ∷ 0 ∷ 0 ∷ 0 ∷ 0 ∷ 0 ∷ 0 ∷ []
-note_numbers (note.Request tag) = 0 ∷ 0 ∷ 0 ∷ 0 ∷ 0 ∷ 0 ∷ tag_number tag ∷ []
-note_numbers (note.Response says) = natural says.status ∷ natural says.index ∷ 0 ∷ 0 ∷ 0 ∷ 0 ∷ 0 ∷ []
-note_numbers note.Report = 0 ∷ 0 ∷ 1 ∷ 0 ∷ 0 ∷ 0 ∷ 0 ∷ []
-note_numbers (note.Answer fault hidden) =
-    0 ∷ 0 ∷ 0 ∷ (fault_numbers fault).0 ∷ (fault_numbers fault).1 ∷ hidden ∷ 0 ∷ []
+-- how a request ended
+abbrev pub ended_number : EndedBy → ℕ
+ended_number ended.Answer = 1
+ended_number ended.Repeated = 2
+ended_number ended.RoundsUsedUp = 3
+ended_number (ended.Unhandled why) = 4
+ended_number ended.Silence = 5
+
+-- why no application answers it, as the agent counts it (RFC 3413, section 4.1.2), or 0 if it ended otherwise
+abbrev pub unhandled_number : EndedBy → ℕ
+unhandled_number (ended.Unhandled NoRequest) = 1
+unhandled_number (ended.Unhandled UnknownPduHandlers) = 7
+unhandled_number (ended.Unhandled UnavailableContexts) = 8
+unhandled_number (ended.Unhandled UnknownContexts) = 9
+unhandled_number _ = 0
+
+-- the same with how the request ended
+abbrev pub ends_so : GateInfo → EndedBy → GateInfo
+ends_so about e = record about { ended = ended_number e; unhandled = unhandled_number e }
+
+abbrev pub tells_note : GateInfo → GateNote → GateInfo
+tells_note about note.Nothing = about
+tells_note about (note.Request tag) = record about { pdu = tag_number tag }
+tells_note about (note.Response says e) =
+    ends_so (record about { status = natural says.status; index = natural says.index }) e
+tells_note about (note.Report e) = ends_so (record about { is_report = true }) e
+tells_note about (note.Unanswered e) = ends_so about e
+tells_note about (note.Asked again) = record about { again = again }
+tells_note about (note.Answer fault hidden) =
+    record about { misfit = (fault_numbers fault).0; binding = (fault_numbers fault).1; hidden = hidden }

@@ -2,11 +2,11 @@
 -- a configuration is refused, and the user of a datagram.
 --
 -- `ReadsSetting`, `IsSetting`: a text that the configuration says. `ReadsContext`: the context in which a request's
--- messages ask. `MayNotify`: whether a receiver may be notified of a variable. `numbers_of`: whom the last call was
--- about. `CountsOf`: a counter of the agent. `TellsGate`: why a text is refused as a configuration. `CopiesUser`: the
--- user that a datagram names.
+-- messages ask. `MayNotify`: whether a receiver may be notified of a variable. `info_of`: what the last call was about
+-- (`about`), and what it told. `CountsOf`: a counter of the agent. `TellsGate`: why a text is refused as a
+-- configuration. `CopiesUser`: the user that a datagram names.
 use Rattle.std.specs.Prelude.{◌≡◌, ◌<◌, ◌≤◌, ◌⊎◌, ⊤, ℕ, List}
-use Rattle.std.specs.Prelude.{◌∷◌, ◌++◌, length, drop, codes, string_bytes, slice_get, if◌then◌else◌, ◌==◌}
+use Rattle.std.specs.Prelude.{◌++◌, length, drop, codes, string_bytes, slice_get, false, if◌then◌else◌, ◌==◌}
 use Rattle.std.specs.Prelude.{Option, Some, None, option_map, MatchOption, Result, Ok, Err}
 use Rattle.std.specs.Net.Text.{socket_text}
 use Rattle.usm_users.specs.declared.load.UserRow.{UserRow}
@@ -33,7 +33,8 @@ use Rattle.snmp_handles.specs.Agents.{AreNoArcs}
 use Rattle.vacm_core.specs.Allowed.{Allowed}
 use Rattle.vacm_core.specs.declared.access.Access.{Access}
 use Rattle.vacm_core.specs.declared.access.ViewType.TheVariants.{Notify}
-use Rattle.gate_handles.specs.Notes.{note_numbers}
+use Rattle.gate_handles.specs.Notes.{tells_note}
+use Rattle.gate_handles.specs.declared.note.GateInfo.{GateInfo}
 use Rattle.snmp_handles.specs.Parts.{Copies, CopiesMessage, CopiesNothing}
 use Rattle.snmp_handles.specs.declared.fault.CallFault.{CallFault}
 use Rattle.snmp_handles.specs.declared.fault.CallFault.TheVariants.{Refused, BadArgument, BadConfiguration}
@@ -112,11 +113,29 @@ MayNotify held receiver device arcs (Err NothingTaken) = (slice_get held.receive
 MayNotify held receiver device arcs (Err BadArgument) = AreNoArcs arcs
 MayNotify held receiver device arcs (Err _) = ⊥
 
--- ---- numbers
+-- ---- the last call
 
--- the request and the device that the last call was about, how many requests wait, and what the last call told
-abbrev pub numbers_of : GateHeld → List ℕ
-numbers_of held = held.request ∷ held.device ∷ length held.gate.requests.list.items ∷ note_numbers held.note
+-- the request and the device that it was about, and how many requests wait, where it told nothing else
+abbrev pub about : GateHeld → GateInfo
+about held = record {
+  request = held.request;
+  device = held.device;
+  waiting = length held.gate.requests.list.items;
+  hidden = 0;
+  binding = 0;
+  misfit = 0;
+  status = 0;
+  index = 0;
+  pdu = 0;
+  ended = 0;
+  unhandled = 0;
+  is_report = false;
+  again = false;
+}
+
+-- the same with what it told
+abbrev pub info_of : GateHeld → GateInfo
+info_of held = tells_note (about held) held.note
 
 -- usmStats n of the agent (RFC 3414, section 5)
 abbrev pub CountsOf : GateHeld → ℕ → Result ℕ CallFault → Type 0

@@ -1,9 +1,8 @@
 //! What becomes of what a gateway gets, and what goes out, by numbers.
 
 ghost use Rattle.std.specs.Prelude.{◌≡◌};
-ghost use Rattle.gate_handles.specs.Events.{event_number, event_code};
+ghost use Rattle.gate_handles.specs.Events.{event_number, event_why};
 
-use snmp_handles::CallFault;
 use snmp_msg::Refusal;
 
 /// What becomes of what a gateway gets, and what goes out.
@@ -37,9 +36,8 @@ pub enum GateEvent {
 
 impl GateEvent {
     /// Returns the event's number: 0 nothing, 20 begins, 21 joins, 22 no room, 23 a Set of before, 24 answers, 25 not
-    /// waited for, 26 unreadable, 27 to a client, 28 to a device, 29 given up, 30 unanswered; or unanswered for this
-    /// reason, 30 and the number of the refusal, 31 to 48.
-    pub fn number(self) -> i32
+    /// waited for, 26 unreadable, 27 to a client, 28 to a device, 29 given up, 30 unanswered.
+    pub fn number(self) -> u32
         ensures { result ≡ event_number self }
     {
         match self {
@@ -54,18 +52,17 @@ impl GateEvent {
             GateEvent::ToClient => 27,
             GateEvent::ToDevice => 28,
             GateEvent::GivenUp => 29,
-            GateEvent::Unanswered(None) => 30,
-            GateEvent::Unanswered(Some(refusal)) => 30 + i32::from(refusal.number()),
+            GateEvent::Unanswered(_) => 30,
         }
     }
-}
 
-/// Returns the number of the event, or that of the fault.
-pub fn event_code_of(told: Result<GateEvent, CallFault>) -> i32
-    ensures { result ≡ event_code told }
-{
-    match told {
-        Ok(event) => event.number(),
-        Err(fault) => fault.code(),
+    /// Returns the reason for which a client's message isn't answered. None: there is none, or it is another event.
+    pub fn why(self) -> Option<Refusal>
+        ensures { result ≡ event_why self }
+    {
+        match self {
+            GateEvent::Unanswered(why) => why,
+            _ => None,
+        }
     }
 }

@@ -10,11 +10,11 @@ ghost use Rattle.snmpsec_gate_config.specs.Rows.{HaveOwnContexts};
 ghost use Rattle.gate_handles.specs.Forwards.{AreNewInforms, EmptiesForwarder, IsNewForwarder, IsNewOriginator};
 ghost use Rattle.gate_handles.specs.Forwards.{MakesForwarder, SendsOn, TakesReceiver, TakesTrap};
 ghost use Rattle.gate_handles.specs.Forwards.{TellsReceiver, TellsTrap, begun};
-ghost use Rattle.gate_handles.specs.Forwards.{forward_numbers_of, notify_type_said};
+ghost use Rattle.gate_handles.specs.Forwards.{forward_info_of, notify_type_said};
 ghost use Rattle.gate_handles.specs.Forwards.{receiver_parts, receiver_said};
 
 use crate::forward_event::ForwardEvent;
-use crate::forward_notes::message_number;
+use crate::forward_notes::{ForwardInfo, message_number};
 use crate::gate_parts::{config_of, empty_agent, empty_users};
 use crate::handle::NO_MEMORY;
 use crate::making::{INFORMS_LIMIT, devices_of};
@@ -342,22 +342,18 @@ impl ForwardHandle {
         copied_message(&self.message, out, written)
     }
 
-    /// Returns the numbers of the last call: that of the notification and that of the receiver that it was about; how
-    /// many notifications wait to be sent; that of the Inform that it was about; how many Informs wait; which message
-    /// was sent for the Inform, 1 the discovery, 2 the request for the time of the receiver's engine, 3 the Inform
-    /// itself; and which counter that engine reported, 1 to 9. What a call isn't about stays, but the message and the
-    /// counter are 0 then.
-    pub fn numbers(&self) -> [u64; 7]
-        ensures { result ≡ forward_numbers_of self.now }
+    /// Returns what the last call was about.
+    pub fn info(&self) -> ForwardInfo
+        ensures { result ≡ forward_info_of self.now }
     {
-        [
-            self.number,
-            self.receiver as u64,
-            self.originator.waiting() as u64,
-            self.inform,
-            self.originator.informs() as u64,
-            message_number(self.sent),
-            u64::from(self.counter),
-        ]
+        ForwardInfo {
+            notification: self.number,
+            inform: self.inform,
+            receiver: self.receiver,
+            waiting: self.originator.waiting(),
+            informs: self.originator.informs(),
+            message: message_number(self.sent),
+            counter: u32::from(self.counter),
+        }
     }
 }

@@ -1,10 +1,9 @@
 //! What becomes of what a forwarder gets, and what goes out, by numbers.
 
 ghost use Rattle.std.specs.Prelude.{◌≡◌};
-ghost use Rattle.gate_handles.specs.Events.{forward_number, forward_code};
+ghost use Rattle.gate_handles.specs.Events.{forward_number, forward_why};
 
 use snmp_forward::NotNotification;
-use snmp_handles::CallFault;
 use snmp_msg::Refusal;
 
 /// What becomes of what a forwarder gets, and what goes out.
@@ -48,10 +47,9 @@ pub enum ForwardEvent {
 
 impl ForwardEvent {
     /// Returns the event's number: 0 nothing; 20 no message of SNMPv2c, 21 no SNMPv2-Trap, 22 no snmpTrapOID.0; 23
-    /// another community, 24 for nobody, 25 no room, 26 waits, 27 to a receiver; or unsent for this reason, 30 and the
-    /// number of the refusal, 31 to 48. Of Informs: 50 no answer, 51 heard, 52 acknowledged, 53 denied, 54 begins, 55
-    /// to a receiver, 56 no room, 57 given up; or unsent for this reason, 60 and the number of the refusal, 61 to 78.
-    pub fn number(self) -> i32
+    /// another community, 24 for nobody, 25 no room, 26 waits, 27 to a receiver, 30 unsent. Of Informs: 50 no answer,
+    /// 51 heard, 52 acknowledged, 53 denied, 54 begins, 55 to a receiver, 56 no room, 57 given up, 60 unsent.
+    pub fn number(self) -> u32
         ensures { result ≡ forward_number self }
     {
         match self {
@@ -64,7 +62,7 @@ impl ForwardEvent {
             ForwardEvent::NoRoom => 25,
             ForwardEvent::Waits => 26,
             ForwardEvent::ToReceiver => 27,
-            ForwardEvent::Unsent(refusal) => 30 + i32::from(refusal.number()),
+            ForwardEvent::Unsent(_) => 30,
             ForwardEvent::NoAnswer => 50,
             ForwardEvent::Heard => 51,
             ForwardEvent::Acknowledged => 52,
@@ -73,17 +71,18 @@ impl ForwardEvent {
             ForwardEvent::InformToReceiver => 55,
             ForwardEvent::InformNoRoom => 56,
             ForwardEvent::InformGivenUp => 57,
-            ForwardEvent::InformUnsent(refusal) => 60 + i32::from(refusal.number()),
+            ForwardEvent::InformUnsent(_) => 60,
         }
     }
-}
 
-/// Returns the number of the event, or that of the fault.
-pub fn forward_code_of(told: Result<ForwardEvent, CallFault>) -> i32
-    ensures { result ≡ forward_code told }
-{
-    match told {
-        Ok(event) => event.number(),
-        Err(fault) => fault.code(),
+    /// Returns the reason for which a notification or an Inform isn't sent. None: it is another event.
+    pub fn why(self) -> Option<Refusal>
+        ensures { result ≡ forward_why self }
+    {
+        match self {
+            ForwardEvent::Unsent(why) => Some(why),
+            ForwardEvent::InformUnsent(why) => Some(why),
+            _ => None,
+        }
     }
 }

@@ -1,4 +1,4 @@
-//! What a call of the forwarding machine tells.
+//! What a call of the forwarding machine tells, and what it was about.
 
 ghost use Rattle.std.specs.Prelude.{◌≡◌, Ok};
 ghost use Rattle.gate_handles.specs.Forwards.{TellsOriginated};
@@ -10,9 +10,32 @@ use crate::forward_event::ForwardEvent;
 use snmp_forward::Originated;
 use snmp_requests::SentMessage;
 
+/// What the last call on a forwarder was about. What a call isn't about stays, but the message and the counter are 0
+/// then.
+#[repr(C)]
+#[derive(Clone, Copy)]
+pub struct ForwardInfo {
+    /// The number of the notification.
+    pub notification: u64,
+    /// The number of the Inform.
+    pub inform: u64,
+    /// The number of the receiver, counted from 0.
+    pub receiver: usize,
+    /// How many notifications wait to be sent.
+    pub waiting: usize,
+    /// How many Informs wait.
+    pub informs: usize,
+    /// Which message was sent for the Inform: 1 the discovery, 2 the request for the time of the receiver's engine, 3
+    /// the Inform itself.
+    pub message: u32,
+    /// Which counter that engine reported: usmStats 1 to 6, 7 snmpUnknownPDUHandlers, 8 snmpUnavailableContexts, 9
+    /// snmpUnknownContexts.
+    pub counter: u32,
+}
+
 /// Returns the number of what was sent for an Inform: 1 the discovery, 2 the request for the time of the receiver's
 /// engine, 3 the Inform itself; 0 nothing.
-pub(crate) fn message_number(sent: Option<SentMessage>) -> u64
+pub(crate) fn message_number(sent: Option<SentMessage>) -> u32
     ensures { result ≡ message_number sent }
 {
     match sent {

@@ -82,10 +82,11 @@ impl GateHandle {
                 client,
                 says,
                 datagram,
+                ended,
             } => {
                 self.request = number;
                 self.client = Some(client);
-                self.note = GateNote::to_client(says);
+                self.note = GateNote::to_client(says, ended);
                 self.message = Some(datagram);
                 GateEvent::ToClient
             }
@@ -93,14 +94,17 @@ impl GateHandle {
                 number,
                 device,
                 datagram,
+                again,
             } => {
                 self.request = number;
                 self.device = device;
+                self.note = GateNote::Asked(again);
                 self.message = Some(datagram);
                 GateEvent::ToDevice
             }
-            Sent::Unanswered { number, why } => {
+            Sent::Unanswered { number, why, ended } => {
                 self.request = number;
+                self.note = GateNote::Unanswered(ended);
                 GateEvent::Unanswered(why)
             }
             Sent::GivenUp { number, device } => {

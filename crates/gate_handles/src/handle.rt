@@ -7,14 +7,14 @@ ghost use Rattle.snmp_handles.specs.Parts.{CopiesMessage};
 ghost use Rattle.gate_handles.specs.Gates.{MakesGate, Empties, IsGateDue};
 ghost use Rattle.gate_handles.specs.Gates.{TakesClient, TakesDevice, SendsNext};
 ghost use Rattle.gate_handles.specs.Gates.{ReadsGate};
-ghost use Rattle.gate_handles.specs.Told.{CountsOf, MayNotify, ReadsContext, ReadsSetting, numbers_of};
+ghost use Rattle.gate_handles.specs.Told.{CountsOf, MayNotify, ReadsContext, ReadsSetting, info_of};
 
 use crate::event::GateEvent;
 use crate::gate_parts::{
     SaidAccess, access_of, agent_without_users, config_of, empty_agent, empty_settings, gate_of,
     rows_of, views_of,
 };
-use crate::note::GateNote;
+use crate::note::{GateInfo, GateNote};
 use crate::setting::{GateText, setting_text};
 use snmp_agent::Agent;
 use snmp_ber::{MAX_INTEGER32, Oid};
@@ -329,31 +329,25 @@ impl GateHandle {
         )
     }
 
-    /// Returns the number of the request that the last call was about, that of the device, and how many requests
-    /// wait. After these comes what the last call reported, and 0 for what it didn't: of a Response that goes to a
-    /// client error-status and error-index; 1 for a Report that goes to one; and of a device's answer why its bindings
-    /// don't answer what it was asked, the number of the first such binding, counted from 1, and how many of its
-    /// bindings the request's message may not see; and of a client's message that waits the tag of its PDU.
-    ///
-    /// Why: 1 it has too few bindings, 2 too many, 3 one of another name, 4 one of a name that isn't after the one
-    /// asked, 5 one without a value, 6 one with a value behind endOfMibView.
-    pub fn numbers(&self) -> [u64; 10]
-        ensures { result ≡ numbers_of self.now }
+    /// Returns what the last call was about, and what it told besides its event.
+    pub fn info(&self) -> GateInfo
+        ensures { result ≡ info_of self.now }
     {
-        let [status, index, report, misfit, binding, hidden, tag] = self.note.numbers();
-        let (device, waiting) = (self.device as u64, self.gate.waiting() as u64);
-        [
-            self.request,
-            device,
-            waiting,
-            status,
-            index,
-            report,
-            misfit,
-            binding,
-            hidden,
-            tag,
-        ]
+        self.note.info(GateInfo {
+            request: self.request,
+            device: self.device,
+            waiting: self.gate.waiting(),
+            hidden: 0,
+            binding: 0,
+            misfit: 0,
+            status: 0,
+            index: 0,
+            pdu: 0,
+            ended: 0,
+            unhandled: 0,
+            is_report: false,
+            again: false,
+        })
     }
 
     /// Returns counter n of the agent, usmStats n of RFC 3414, section 5. The error is BadArgument, if n isn't 1 to

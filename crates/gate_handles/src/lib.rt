@@ -2,7 +2,7 @@
 //! take plain numbers and octets, and write into the caller's buffers. A value out of range is a fault of the call.
 //!
 //! ```
-//! use gate_handles::{GateEvent, GateHandle, GateText, event_code_of};
+//! use gate_handles::{GateEvent, GateHandle, GateText};
 //! use std::alloc::Global;
 //!
 //! const TEXT: &[u8] = b"\
@@ -17,14 +17,13 @@
 //!     told.is_ok() && written == 12 && out.starts_with(b"10.1.0.7:161")
 //! }
 //!
-//! /// Whether the device has its address, whether what isn't a message is taken, and what is due then, twice.
-//! type Told = (bool, bool, i32, GateEvent);
+//! /// Whether the device has its address, whether what isn't a message is taken, and what is due then, and its number.
+//! type Told = (bool, bool, u32, GateEvent);
 //!
 //! fn told_by(gate: &mut GateHandle) -> Result<Told, Fail> {
 //!     let is_taken = gate.take_client(1000, b"client", b"no message").is_ok();
-//!     let code = event_code_of(gate.next(1000, 1, 1));
-//!     let event = gate.next(1000, 2, 2)?;
-//!     Ok((has_address(gate), is_taken, code, event))
+//!     let event = gate.next(1000, 1, 1)?;
+//!     Ok((has_address(gate), is_taken, event.number(), event))
 //! }
 //!
 //! fn told(alloc: Global) -> Result<Told, Fail> {
@@ -34,9 +33,9 @@
 //!     told
 //! }
 //!
-//! let (has_address, is_taken, code, event) = told(rt.alloc())?;
+//! let (has_address, is_taken, number, event) = told(rt.alloc())?;
 //! assert!(rt; has_address && !is_taken);
-//! assert_eq!(rt; (code, event), (0, GateEvent::Nothing));
+//! assert_eq!(rt; (number, event), (0, GateEvent::Nothing));
 //! ```
 #![tactic(auto)]
 
@@ -53,11 +52,13 @@ mod note;
 mod setting;
 mod told;
 
-pub use event::{GateEvent, event_code_of};
+pub use event::GateEvent;
 pub use forward::ForwardHandle;
-pub use forward_event::{ForwardEvent, forward_code_of};
+pub use forward_event::ForwardEvent;
+pub use forward_notes::ForwardInfo;
 pub use handle::GateHandle;
 pub use laws::a_handle_mediates;
 pub use making::{GATHERED, INFORMS_LIMIT, JOINED, NAMES};
+pub use note::GateInfo;
 pub use setting::GateText;
 pub use told::{copied_user, tell_gate_config};

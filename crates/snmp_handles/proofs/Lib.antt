@@ -4,3 +4,5 @@ pub mod NextNames
 pub mod ManyAsks
 pub mod ScopedLengths
 pub mod Sequences
+pub mod Whole
+pub mod Fits

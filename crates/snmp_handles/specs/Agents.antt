@@ -10,8 +10,9 @@
 -- `TakesHeld`: what is accepted is kept; of a refusal the report is left. `TakesNoMemory`: the datagram is
 -- refused, isn't opened, and no report on it is offered. `IsAsked`: what is kept is of the Confirmed Class.
 -- `RespondsHeld`, `NotifiesHeld`: the message is left to be sent (`LeavesMessage`); `RefusesResponse`,
--- `RefusesNotice`: why none is. `Responds`: the Response with the bindings that octets are; `trap`: a
--- notification (RFC 3416, section 4.2.6).
+-- `RefusesNotice`: why none is. `GoesOutAs`: a text is what is said, and managers with that user accept it;
+-- `IsResponseText`, `IsNoticeText`: it is the Response, or the notification. `Responds`, `NotifiesAt`: what is
+-- answered to them, a refusal too; `trap`: a notification (RFC 3416, section 4.2.6).
 --
 -- `AllowsHeld`, `MaySee`: isAccessAllowed by numbers (`view_of`, `level_of`); `AreNoArcs`: not 1 to 128 of
 -- them. `Counts`: a counter. `Clears`: all is given back, and what stays has no users and `no_rows`.
@@ -33,8 +34,9 @@ use Rattle.snmp_agent.specs.Report.{AgentReports, OffersOnAnswer}
 use Rattle.snmp_outgoing.specs.Speaks.{Speech, spoken}
 use Rattle.snmp_agent.specs.RefusalCounters.{counter_at}
 use Rattle.snmp_agent.specs.Decides.{question, question_of}
-use Rattle.snmp_agent.specs.Responses.{responding}
-use Rattle.snmp_agent.specs.Sent.{Sends, CanSendAt, RefusesSenderAt}
+use Rattle.snmp_agent.specs.Responses.{response, responding}
+use Rattle.snmp_agent.specs.Sent.{Sends, CanSendAt, IsAcceptedByManagers, RefusesSenderAt}
+use Rattle.snmp_incoming.specs.Outcome.{own_pair}
 use Rattle.engine_clock.specs.Pairs.{BootsAndTime, pair_max}
 use Rattle.usm_core.specs.Authentic.{HasEngineLength}
 use Rattle.usm_users.specs.User.{User}
@@ -174,6 +176,19 @@ Counts held n (Err _) = ⊥
 
 -- ---- sending
 
+-- The text is what the agent sends to say this under its boots and time. Each manager that has the sender's user
+-- accepts it, exactly where the pair is in the window of what the manager then holds.
+abbrev pub GoesOutAs : AgentState → ℕ → (BootsAndTime → Speech) → List ℕ → Type 0
+GoesOutAs agent now says text = Sends agent now (λ own. spoken (says own)) (Ok text)
+    × IsAcceptedByManagers agent.users (says (own_pair agent.boots agent.started now)) text
+
+-- the text is the Response to what was given, with the bindings that these octets are
+abbrev pub IsResponseText : AgentState → ℕ → Given → ℕ → ℕ → List ℕ → List ℕ → List ℕ → Type 0
+IsResponseText agent now g status index list salt text =
+    (vs : List Variable) × AreBindings vs list
+    × ((c : Contexts) (p : PduParts) → ScopedFront g.text c → PduText c.pdu p
+    → GoesOutAs agent now (λ own. response agent.engine own g c p (pos status) (pos index) vs salt) text)
+
 -- The Response to what was given, with the bindings that these octets are, or its refusal.
 abbrev pub Responds : AgentState → ℕ → Given → ℕ → ℕ → List ℕ → List ℕ → Result (List ℕ) Refusal → Type 0
 Responds agent now g status index list salt answer =
@@ -225,7 +240,7 @@ LeavesMessage old text new = new ≡ record old { message = Some text }
 abbrev pub RespondsHeld : {V : Type 0} → AgentHeld → ℕ → ℕ → ℕ → List ℕ → List ℕ → Result V CallFault
     → AgentHeld → Type 0
 RespondsHeld old now status index list salt (Ok done) new = AreInRange status index
-    × ((g : Given) × (text : List ℕ) × IsAsked old g × Responds old.agent now g status index list salt (Ok text)
+    × ((g : Given) × (text : List ℕ) × IsAsked old g × IsResponseText old.agent now g status index list salt text
     × LeavesMessage old text new)
 RespondsHeld old now status index list salt (Err fault) new = RefusesResponse old now status index list salt fault
     × (new ≡ old)
@@ -261,9 +276,11 @@ NotifiesAt agent now n level list salt answer =
     (vs : List Variable) × AreBindings vs list
     × Sends agent now (λ own. spoken (trap agent.engine own n level vs salt)) answer
 
-abbrev pub Notifies : AgentState → ℕ → Notice → List ℕ → List ℕ → Result (List ℕ) Refusal → Type 0
-Notifies agent now n list salt answer = (at : Level) × (level_of n.level ≡ Some at)
-    × NotifiesAt agent now n at list salt answer
+-- the text is the notification at this level, with the bindings that these octets are
+abbrev pub IsNoticeText : AgentState → ℕ → Notice → Level → List ℕ → List ℕ → List ℕ → Type 0
+IsNoticeText agent now n level list salt text =
+    (vs : List Variable) × AreBindings vs list
+    × GoesOutAs agent now (λ own. trap agent.engine own n level vs salt) text
 
 -- Nothing can be sent for the user at this level; or it can, and the notification is refused, or finds no memory.
 abbrev pub StopsNotice : AgentState → ℕ → Notice → Level → List ℕ → List ℕ → Refusal → Type 0
@@ -289,5 +306,6 @@ RefusesNotice held now n list salt _ = ⊥
 abbrev pub NotifiesHeld : {V : Type 0} → AgentHeld → ℕ → Notice → List ℕ → List ℕ → Result V CallFault
     → AgentHeld → Type 0
 NotifiesHeld old now n list salt (Ok done) new = (IsNoticeOutOfRange n → ⊥)
-    × ((text : List ℕ) × Notifies old.agent now n list salt (Ok text) × LeavesMessage old text new)
+    × ((at : Level) × (text : List ℕ) × (level_of n.level ≡ Some at) × IsNoticeText old.agent now n at list salt text
+    × LeavesMessage old text new)
 NotifiesHeld old now n list salt (Err fault) new = RefusesNotice old now n list salt fault × (new ≡ old)

@@ -7,7 +7,7 @@ use Rattle.snmp_outgoing.specs.Sends.{CanSend}
 use Rattle.snmp_manager.specs.Views.{Held}
 use Rattle.snmp_manager.specs.Pendings.{Remembers}
 use Rattle.snmp_manager.specs.declared.pending.Pending.{Pending}
-use Rattle.snmp_handles.specs.Managers.{Asking, AsksAt, StopsRequest}
+use Rattle.snmp_handles.specs.Managers.{Asking, IsRequestText, StopsRequest}
 use Rattle.snmp_handles.specs.declared.manager.AskedOf.{AskedOf}
 use Rattle.snmp_handles.specs.declared.fault.CallFault.{CallFault}
 use Rattle.snmp_handles.specs.declared.fault.CallFault.TheVariants.{Refused, BadBindings}
@@ -32,7 +32,7 @@ RemembersAsking a ask level = Remembers a ask.id ask.engine ask.user level ask.c
     (pos ask.request_id)
 
 abbrev pub AnswersRequest : Held → ℕ → Asking → Level → List ℕ → List ℕ → Result (Vec ℕ × Pending) CallFault → Type 0
-AnswersRequest held now ask level list salt (Ok sent) = AsksAt held now ask level list salt (Ok sent.0.items)
+AnswersRequest held now ask level list salt (Ok sent) = IsRequestText held now ask level list salt sent.0.items
     × RemembersAsking sent.1 ask level
 AnswersRequest held now ask level list salt (Err (Refused fault)) = StopsRequest held now ask level list salt fault
 AnswersRequest held now ask level list salt (Err BadBindings) = CanSend held.users ask.user level

@@ -7,7 +7,7 @@ use Rattle.snmp_incoming.specs.Outcome.{Given}
 use Rattle.snmp_msg.specs.PduTypes.{is_confirmed}
 use Rattle.snmp_agent.specs.Agent.{AgentState}
 use Rattle.snmp_agent.specs.Sent.{CanSendAt, RefusesSenderAt}
-use Rattle.snmp_handles.specs.Agents.{Responds, StopsResponse, HasNoBindings, Notice, NotifiesAt, StopsNotice}
+use Rattle.snmp_handles.specs.Agents.{HasNoBindings, Notice, IsNoticeText, StopsNotice}
 use Rattle.snmp_message.specs.declared.refusal.Refusal.{Refusal}
 use Rattle.snmp_handles.specs.declared.agent.NoticeTo.{NoticeTo}
 use Rattle.snmp_handles.specs.declared.fault.CallFault.{CallFault}
@@ -30,11 +30,6 @@ Answering agent now g list Told Stops (Err NotAsked) = is_confirmed g.tag ≡ fa
 Answering agent now g list Told Stops (Err BadBindings) = (is_confirmed g.tag ≡ true) × HasNoBindings agent now g list
 Answering agent now g list Told Stops (Err _) = ⊥
 
-abbrev pub AnswersResponse : AgentState → ℕ → Given → ℕ → ℕ → List ℕ → List ℕ → Result (Vec ℕ) CallFault → Type 0
-AnswersResponse agent now g status index list salt answer =
-    Answering agent now g list (λ text. Responds agent now g status index list salt (Ok text.items))
-    (λ f. StopsResponse agent now g status index list salt f) answer
-
 abbrev pub notice_of : NoticeTo → Notice
 notice_of to = record {
   id = to.id;
@@ -46,7 +41,7 @@ notice_of to = record {
 }
 
 abbrev pub AnswersNotice : AgentState → ℕ → Notice → Level → List ℕ → List ℕ → Result (Vec ℕ) CallFault → Type 0
-AnswersNotice agent now n level list salt (Ok text) = NotifiesAt agent now n level list salt (Ok text.items)
+AnswersNotice agent now n level list salt (Ok text) = IsNoticeText agent now n level list salt text.items
 AnswersNotice agent now n level list salt (Err (Refused fault)) = StopsNotice agent now n level list salt fault
 AnswersNotice agent now n level list salt (Err BadBindings) = CanSendAt agent now n.user level
     × ((vs : List Variable) → AreBindings vs list → ⊥)

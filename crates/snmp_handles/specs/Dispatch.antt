@@ -2,23 +2,24 @@
 -- be, whether anything answers it at all, the report where nothing does, and the counters (RFC 3412, sections
 -- 4.2.2 and 7.1; RFC 3413, section 3.2; RFC 3416, section 4.2).
 use Rattle.snmp_message.specs.declared.refusal.Refusal.{Refusal}
-use Rattle.std.specs.Prelude.{◌≡◌, ◌⊎◌, ℕ, pos, List, Option, Some, None, option_map, Result, Ok, Err, IfSome}
+use Rattle.std.specs.Prelude.{◌≡◌, ◌≤◌, ◌⊎◌, ℕ, pos, List, [], length, take, Option, Some, None, option_map}
+use Rattle.std.specs.Prelude.{Result, Ok, Err, IfSome}
 use Rattle.std.specs.Global.{Vec}
 use Rattle.snmp_message.specs.Scoped.{Contexts, ScopedFront}
 use Rattle.snmp_msg.specs.Pdu.{PduParts, PduText}
 use Rattle.snmp_msg.specs.Variables.{Variable, AreBindings}
-use Rattle.snmp_incoming.specs.Outcome.{Given}
-use Rattle.snmp_message.specs.declared.refusal.Refusal.TheVariants.{OutOfMemory}
+use Rattle.snmp_incoming.specs.Outcome.{Given, own_pair}
+use Rattle.snmp_message.specs.declared.refusal.Refusal.TheVariants.{OutOfMemory, TooLarge}
 use Rattle.usm_core.specs.Table.{refusal_answer}
 use Rattle.snmp_outgoing.specs.UpTo.{UpTo}
-use Rattle.snmp_outgoing.specs.Fronts.{FrontText}
+use Rattle.snmp_outgoing.specs.Fronts.{FrontText, IsBeyond, IsLongestFront, room}
 use Rattle.snmp_outgoing.specs.declared.front.Fronted.{Fronted}
 use Rattle.snmp_agent.specs.Agent.{AgentState}
-use Rattle.snmp_agent.specs.Responses.{responding}
-use Rattle.snmp_agent.specs.Sent.{Sends, SendsFront, CanSendAt, RefusesSenderAt}
+use Rattle.snmp_agent.specs.Responses.{response, responding}
+use Rattle.snmp_agent.specs.Sent.{Sends, SendsFront, CanSendAt, IsAcceptedByManagers, RefusesSenderAt}
 use Rattle.snmp_agent.specs.Dispatch.{HandledBy, Refuses, RefusalCanBeSent}
 use Rattle.snmp_agent.specs.declared.unhandled.Unhandled.{Unhandled}
-use Rattle.snmp_handles.specs.Agents.{AgentHeld, IsAsked, AreInRange, RefusesAnswer, LeavesMessage}
+use Rattle.snmp_handles.specs.Agents.{AgentHeld, IsAsked, GoesOutAs, AreInRange, RefusesAnswer, LeavesMessage}
 use Rattle.snmp_handles.specs.Between.{Answering}
 use Rattle.snmp_handles.specs.declared.fault.CallFault.{CallFault}
 use Rattle.snmp_handles.specs.declared.fault.CallFault.TheVariants.{Refused, NothingTaken}
@@ -32,6 +33,14 @@ RespondsWithin agent now g status index list salt limit answer =
     (vs : List Variable) × AreBindings vs list
     × ((c : Contexts) (p : PduParts) → ScopedFront g.text c → PduText c.pdu p
     → UpTo limit (Sends agent now (λ own. responding agent.engine own g c p (pos status) (pos index) vs salt)) answer)
+
+-- the text is that Response, and has at most so many octets
+abbrev pub IsResponseWithin : AgentState → ℕ → Given → ℕ → ℕ → List ℕ → List ℕ → ℕ → List ℕ → Type 0
+IsResponseWithin agent now g status index list salt limit text =
+    (vs : List Variable) × AreBindings vs list
+    × ((c : Contexts) (p : PduParts) → ScopedFront g.text c → PduText c.pdu p
+    → GoesOutAs agent now (λ own. response agent.engine own g c p (pos status) (pos index) vs salt) text
+    × (length text ≤ limit))
 
 -- Nothing can be sent for its user at its level; or it can, and the Response is refused or too long, or finds
 -- no memory.
@@ -50,7 +59,7 @@ abbrev pub RespondsHeldWithin : {V : Type 0} → AgentHeld → ℕ → ℕ → �
     → AgentHeld → Type 0
 RespondsHeldWithin old now status index list salt limit (Ok done) new = AreInRange status index
     × ((g : Given) × (text : List ℕ) × IsAsked old g
-    × RespondsWithin old.agent now g status index list salt limit (Ok text) × LeavesMessage old text new)
+    × IsResponseWithin old.agent now g status index list salt limit text × LeavesMessage old text new)
 RespondsHeldWithin old now status index list salt limit
     (Err fault) new = RefusesWithin old now status index list salt limit fault × (new ≡ old)
 
@@ -62,6 +71,18 @@ RespondsFront agent now g status index list salt limit answer =
     × ((c : Contexts) (p : PduParts) → ScopedFront g.text c → PduText c.pdu p
     → SendsFront agent now limit
     (λ own xs. responding agent.engine own g c p (pos status) (pos index) xs salt) vs answer)
+
+-- The text is that Response with so many of the bindings. Each manager that has its user accepts it, exactly where the
+-- pair is in the window of what the manager then holds.
+abbrev pub IsFrontResponse : AgentState → ℕ → Given → ℕ → ℕ → List ℕ → List ℕ → ℕ → FrontText → Type 0
+IsFrontResponse agent now g status index list salt limit f =
+    (vs : List Variable) × AreBindings vs list
+    × ((c : Contexts) (p : PduParts) → ScopedFront g.text c → PduText c.pdu p
+    → SendsFront agent now limit
+    (λ own xs. responding agent.engine own g c p (pos status) (pos index) xs salt) vs (Ok f)
+    × IsAcceptedByManagers agent.users
+    (response agent.engine (own_pair agent.boots agent.started now) g c p (pos status) (pos index) (take f.count vs)
+    salt) f.text)
 
 -- Nothing can be sent for its user at its level; or it can, and the Response is refused, has no room even
 -- without bindings, or finds no memory.
@@ -76,7 +97,7 @@ StopsFront agent now g status index list salt limit fault =
 abbrev pub RespondsHeldFront : AgentHeld → ℕ → ℕ → ℕ → List ℕ → List ℕ → ℕ → Result ℕ CallFault → AgentHeld → Type 0
 RespondsHeldFront old now status index list salt limit (Ok count) new = AreInRange status index
     × ((g : Given) × (text : List ℕ) × IsAsked old g
-    × RespondsFront old.agent now g status index list salt limit (Ok (record { text = text; count = count }))
+    × IsFrontResponse old.agent now g status index list salt limit (record { text = text; count = count })
     × LeavesMessage old text new)
 RespondsHeldFront old now status index list salt limit (Err fault) new =
     RefusesAnswer old now status index list (λ g f. StopsFront old.agent now g status index list salt limit f) fault
@@ -85,15 +106,54 @@ RespondsHeldFront old now status index list salt limit (Err fault) new =
 -- between the functions: the same of what is kept, before it is left to be sent
 abbrev pub AnswersWithin : AgentState → ℕ → Given → ℕ → ℕ → List ℕ → List ℕ → ℕ → Result (Vec ℕ) CallFault → Type 0
 AnswersWithin agent now g status index list salt limit answer =
-    Answering agent now g list (λ text. RespondsWithin agent now g status index list salt limit (Ok text.items))
+    Answering agent now g list (λ text. IsResponseWithin agent now g status index list salt limit text.items)
     (λ f. StopsWithin agent now g status index list salt limit f) answer
 
 abbrev pub AnswersFront : AgentState → ℕ → Given → ℕ → ℕ → List ℕ → List ℕ → ℕ → Result Fronted CallFault → Type 0
 AnswersFront agent now g status index list salt limit answer =
     Answering agent now g list
-    (λ told. RespondsFront agent now g status index list salt limit
-    (Ok (record { text = told.text.items; count = told.count })))
+    (λ told. IsFrontResponse agent now g status index list salt limit
+    (record { text = told.text.items; count = told.count }))
     (λ f. StopsFront agent now g status index list salt limit f) answer
+
+-- ---- how long an answer is
+
+-- So many of the bindings, from the first on, have room in the Response to what was given within so many octets, and
+-- no more.
+abbrev pub HaveRoom : AgentState → ℕ → Given → ℕ → ℕ → List ℕ → List ℕ → ℕ → ℕ → Type 0
+HaveRoom agent now g status index list salt limit count =
+    (vs : List Variable) × AreBindings vs list
+    × ((c : Contexts) (p : PduParts) → ScopedFront g.text c → PduText c.pdu p
+    → IsLongestFront agent.users (room limit)
+    (λ xs. responding agent.engine (own_pair agent.boots agent.started now) g c p (pos status) (pos index) xs salt) vs
+    count)
+
+-- the Response has no room even without bindings
+abbrev pub HasNoRoom : AgentState → ℕ → Given → ℕ → ℕ → List ℕ → ℕ → Type 0
+HasNoRoom agent now g status index salt limit =
+    (c : Contexts) (p : PduParts) → ScopedFront g.text c → PduText c.pdu p
+    → IsBeyond agent.users (room limit)
+    (responding agent.engine (own_pair agent.boots agent.started now) g c p (pos status) (pos index) [] salt)
+
+-- Nothing can be sent for its user at its level; or it can, and there is no room, or no memory.
+abbrev pub StopsCounting : AgentState → ℕ → Given → ℕ → ℕ → List ℕ → ℕ → Refusal → Type 0
+StopsCounting agent now g status index salt limit fault =
+    RefusesSenderAt agent now g.user g.level fault
+    ⊎ (CanSendAt agent now g.user g.level
+    × ((fault ≡ OutOfMemory) ⊎ ((fault ≡ TooLarge) × HasNoRoom agent now g status index salt limit)))
+
+-- So many of the bindings have room in the Response to what is kept; or why it isn't answered.
+abbrev pub FitsHeld : AgentHeld → ℕ → ℕ → ℕ → List ℕ → List ℕ → ℕ → Result ℕ CallFault → Type 0
+FitsHeld held now status index list salt limit (Ok count) = AreInRange status index
+    × ((g : Given) × IsAsked held g × HaveRoom held.agent now g status index list salt limit count)
+FitsHeld held now status index list salt limit (Err fault) =
+    RefusesAnswer held now status index list (λ g f. StopsCounting held.agent now g status index salt limit f) fault
+
+-- between the functions: the same of what is kept
+abbrev pub CountsRoom : AgentState → ℕ → Given → ℕ → ℕ → List ℕ → List ℕ → ℕ → Result ℕ CallFault → Type 0
+CountsRoom agent now g status index list salt limit answer =
+    Answering agent now g list (HaveRoom agent now g status index list salt limit)
+    (λ f. StopsCounting agent now g status index salt limit f) answer
 
 -- ---- who answers
 

@@ -1,11 +1,8 @@
 -- Why a call of a handle isn't done, and the numbers that tell it.
 --
--- `code`, `fault_code`, `access_code`, `answer_code`, `value_code`: the numbers of what calls tell.
-use Rattle.std.specs.Prelude.{◌≡◌, ◌<◌, ◌⊎◌, ℕ, ℤ, pos, negsuc, ◌+◌, Option, Some, None, Result, Ok, Err}
-use Rattle.snmp_manager.specs.declared.pending.Answer.{Answer}
-use Rattle.snmp_manager.specs.declared.pending.Answer.TheVariants.{Response, Report, NotForIt}
+-- `code`, `fault_code`: the number of what a call answers. `unhandled_code`, `IsStatusCode`: those of what it tells.
+use Rattle.std.specs.Prelude.{◌≡◌, ◌<◌, ◌⊎◌, ℕ, ℤ, pos, negsuc, Option, Some, None, Result, Ok, Err}
 use Rattle.vacm_core.specs.declared.access.Access.{Access}
-use Rattle.vacm_core.specs.Numbers.{access_number}
 use Rattle.snmp_agent.specs.Statuses.{IsStatusOf, status_number}
 use Rattle.snmp_agent.specs.declared.status.Status.{Status}
 use Rattle.snmp_agent.specs.declared.unhandled.Unhandled.{Unhandled}
@@ -32,23 +29,6 @@ fault_code TooManyRequests = negsuc 7
 abbrev pub code : {V : Type 0} → Result V CallFault → ℤ
 code (Ok done) = pos 0
 code (Err fault) = fault_code fault
-
--- the number of an answer on access
-abbrev pub access_code : Result Access CallFault → ℤ
-access_code (Ok access) = pos (access_number access)
-access_code (Err fault) = fault_code fault
-
--- a number that is given as it is
-abbrev pub value_code : Result ℕ CallFault → ℤ
-value_code (Ok value) = pos value
-value_code (Err fault) = fault_code fault
-
--- what an accepted message is to a request
-abbrev pub answer_code : Result Answer CallFault → ℤ
-answer_code (Ok Response) = pos 0
-answer_code (Ok NotForIt) = pos 1
-answer_code (Ok (Report n)) = pos (10 + n)
-answer_code (Err fault) = fault_code fault
 
 -- why nothing answers what is kept, or 0
 abbrev pub unhandled_code : Result (Option Unhandled) CallFault → ℤ

@@ -3,32 +3,34 @@
 -- `ManagerHeld`: a manager with what was accepted last, the message that was written last and what is
 -- remembered of the last request. `MakesManager`, `RefusesManager`, `ClearsManager`, `ManagerTakes`,
 -- `TellsAnswer`, `RequestsHeld`, `RefusesRequest`, `DiscoversHeld`, `AbsorbsHeld`, `SavesHeld`,
--- `TellsPair`: its calls. `asked`: the request; `Waits`: it is to be sent, and its answer is waited for.
+-- `TellsPair`: its calls. `said`, `asked`: the request; `IsRequestText`: a text is it, and agents with its user
+-- accept it. `Waits`: it is to be sent, and its answer is waited for.
 use Rattle.snmp_message.specs.declared.refusal.Refusal.{Refusal}
 use Rattle.std.specs.FinMap as map
 use Rattle.std.specs.Prelude.{◌≡◌, ◌<◌, ◌≤◌, ◌⊎◌, ℕ, pos, List, [], length, Option, Some, None, Result, Ok, Err, IfSome}
 use Rattle.snmp_ber.specs.declared.level.Level.{Level}
 use Rattle.snmp_ber.specs.declared.level.Level.TheVariants.{NoAuthNoPriv}
 use Rattle.snmp_ber.specs.declared.number.TheConstants.{MAX_INTEGER32}
-use Rattle.snmp_message.specs.Scoped.{Contexts, ScopedFront, scoped_text}
-use Rattle.snmp_msg.specs.Pdu.{PduParts, PduText, pdu_with, pdu_text}
+use Rattle.snmp_message.specs.Scoped.{Contexts, ScopedFront}
+use Rattle.snmp_msg.specs.Pdu.{PduParts, PduText, IsSpelled, pdu_with}
 use Rattle.snmp_msg.specs.PduTypes.{IsPduTag, is_confirmed}
 use Rattle.snmp_msg.specs.Variables.{Variable, AreBindings}
-use Rattle.engine_clock.specs.Pairs.{BootsAndTime}
+use Rattle.engine_clock.specs.Pairs.{BootsAndTime, IsPair}
 use Rattle.engine_clock.specs.Marks.{Marks, SeenPair, mark_at, pair_at, IsMarkJoinOf}
-use Rattle.engine_clock.specs.Saved.{Saves, listing}
+use Rattle.engine_clock.specs.Saved.{AreMarks, Saves, listing}
 use Rattle.usm_core.specs.Authentic.{HasEngineLength}
 use Rattle.usm_users.specs.User.{User}
 use Rattle.usm_core.specs.Sealed.{Sending, Seals}
 use Rattle.snmp_incoming.specs.Outcome.{Given}
 use Rattle.snmp_message.specs.declared.refusal.Refusal.TheVariants.{OutOfMemory}
-use Rattle.snmp_outgoing.specs.Bodies.{header_at}
 use Rattle.snmp_outgoing.specs.Sends.{CanSend, RefusesSender}
+use Rattle.snmp_outgoing.specs.Speaks.{Speech, spoken}
 use Rattle.usm_core.specs.Table.{refusal_answer}
 use Rattle.snmp_outgoing.specs.Requests.{written_pair, discovering}
 use Rattle.snmp_manager.specs.Views.{Held, held_by}
 use Rattle.snmp_manager.specs.Takes as manager
 use Rattle.snmp_manager.specs.Pendings.{Remembers}
+use Rattle.snmp_manager.specs.Sent.{IsAcceptedByAgents}
 use Rattle.snmp_manager.specs.Replies.{IsAnswer}
 use Rattle.snmp_manager.specs.declared.pending.Pending.{Pending}
 use Rattle.snmp_manager.specs.declared.pending.Answer.{Answer}
@@ -89,7 +91,8 @@ ClearsManager old (Err fault) new = (fault ≡ Refused OutOfMemory) × (new ≡ 
 
 -- ---- taking
 
--- An accepted datagram is kept. The request that is waited for stays. Where memory runs out, the manager is as it was.
+-- An accepted datagram is kept. The request that is waited for stays. A refusal that comes before the pair is learned
+-- leaves the marks. Where memory runs out, the manager is as it was.
 abbrev pub ManagerTakes : {V : Type 0} → ManagerHeld → ℕ → List ℕ → Result V CallFault → ManagerHeld → Type 0
 ManagerTakes old now w (Ok done) new =
     (g : Given) × (new.last ≡ Some g) × (new.message ≡ None) × (new.pending ≡ old.pending)
@@ -97,6 +100,7 @@ ManagerTakes old now w (Ok done) new =
 ManagerTakes old now w (Err (Refused fault)) new =
     (new.last ≡ None) × (new.message ≡ None) × (new.pending ≡ old.pending) × (new.requests ≡ old.requests)
     × manager.Takes old.manager now w (refusal_answer fault) new.manager
+    × ((manager.IsOnceLearned fault → ⊥) → new.manager.clocks ≡ old.manager.clocks)
 ManagerTakes old now w (Err _) new = ⊥
 
 -- ---- the request that is waited for
@@ -128,23 +132,46 @@ pub record Asking : Type 0 where
   pub second : ℕ
   pub third : ℕ
 
--- the request with these bindings to the engine, of which this mark is held (RFC 3414, section 3.1)
-abbrev pub asked : Option SeenPair → ℕ → Asking → Level → List Variable → List ℕ → Sending
-asked held now ask level vs salt = record {
-  header = header_at level ask.id (is_confirmed ask.tag);
+-- what the request says with these bindings, to the engine, of which this mark is held (RFC 3414, section 3.1)
+abbrev pub said : Option SeenPair → ℕ → Asking → Level → List Variable → List ℕ → Speech
+said held now ask level vs salt = record {
+  level = level;
+  id = ask.id;
+  reportable = is_confirmed ask.tag;
   engine = ask.engine;
   pair = written_pair level held now;
   user = ask.user;
   salt = salt;
-  scoped = scoped_text ask.context_engine ask.context_name
-      (pdu_text (pdu_with ask.tag (pos ask.request_id) (pos ask.second) (pos ask.third) vs));
+  context_engine = ask.context_engine;
+  context_name = ask.context_name;
+  pdu = pdu_with ask.tag (pos ask.request_id) (pos ask.second) (pos ask.third) vs;
 }
+
+-- the message that is sent with it
+abbrev pub asked : Option SeenPair → ℕ → Asking → Level → List Variable → List ℕ → Sending
+asked held now ask level vs salt = spoken (said held now ask level vs salt)
 
 -- the request with the bindings that these octets are, or its refusal
 abbrev pub AsksAt : Held → ℕ → Asking → Level → List ℕ → List ℕ → Result (List ℕ) Refusal → Type 0
 AsksAt held now ask level list salt answer =
     (vs : List Variable) × AreBindings vs list
     × Seals held.users (asked (mark_at held.clocks ask.engine) now ask level vs salt) answer
+
+-- The text is sent to say this, with the shortest spelling of its PDU, by a manager with these users that holds this
+-- mark of the engine. Each agent of the engine that has its user accepts it, exactly where the pair is in the agent's
+-- window.
+pub record IsSentAs (users : List User) (held : Option SeenPair) (s : Speech) (text : List ℕ) : Type 0 where
+  pub sealed : Seals users (spoken s) (Ok text)
+  pub accepted : IsAcceptedByAgents users s text
+  pub pair : (mark : SeenPair) → held ≡ Some mark → IsPair mark.pair
+  pub spelled : IsSpelled s.pdu
+
+-- the text is the request with the bindings that these octets are
+abbrev pub IsRequestText : Held → ℕ → Asking → Level → List ℕ → List ℕ → List ℕ → Type 0
+IsRequestText held now ask level list salt text =
+    (vs : List Variable) × AreBindings vs list
+    × IsSentAs held.users (mark_at held.clocks ask.engine) (said (mark_at held.clocks ask.engine) now ask level vs salt)
+    text
 
 -- a number or a length is out of its range
 abbrev pub IsOutOfRange : Asking → Type 0
@@ -177,7 +204,7 @@ abbrev pub RequestsHeld : {V : Type 0} → ManagerHeld → ℕ → Asking → Li
     → ManagerHeld → Type 0
 RequestsHeld old now ask list salt (Ok done) new = (IsOutOfRange ask → ⊥)
     × ((level : Level) × (text : List ℕ) × (a : Pending) × (level_of ask.level ≡ Some level)
-    × AsksAt old.manager now ask level list salt (Ok text)
+    × IsRequestText old.manager now ask level list salt text
     × Remembers a ask.id ask.engine ask.user level ask.context_engine ask.context_name (pos ask.request_id)
     × Waits old text a new)
 RequestsHeld old now ask list salt (Err fault) new = RefusesRequest old now ask list salt fault × (new ≡ old)
@@ -202,9 +229,10 @@ AbsorbsHeld old text now (Err BadClocks) new = ((clocks : Marks) → Saves now t
 AbsorbsHeld old text now (Err (Refused fault)) new = (fault ≡ OutOfMemory) × (new ≡ old)
 AbsorbsHeld old text now (Err _) new = ⊥
 
--- The saved text of the marks is the message.
+-- The saved text of the marks, which are within their bounds, is the message.
 abbrev pub SavesHeld : {V : Type 0} → ManagerHeld → Result V CallFault → ManagerHeld → Type 0
-SavesHeld old (Ok done) new = new ≡ record old { message = Some (listing old.manager.clocks) }
+SavesHeld old (Ok done) new = AreMarks old.manager.clocks
+    × (new ≡ record old { message = Some (listing old.manager.clocks) })
 SavesHeld old (Err fault) new = (fault ≡ Refused OutOfMemory) × (new ≡ old)
 
 -- the pair that is held of the engine

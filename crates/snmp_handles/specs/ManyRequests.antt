@@ -3,7 +3,7 @@
 -- `HasRoom`, `HasNoRoom`: the token of the request that is asked next, or why there is none. `with_id`: the request
 -- with the msgID of its token. `AsksHeld`, `DiscoversMany`: one more request waits. `FindsAnswer`: the one request that
 -- the message that is kept answers. `GivesUp`: a request isn't waited for any more.
-use Rattle.std.specs.Prelude.{◌≡◌, ◌⊎◌, ℕ, ◌<◌, ◌≤◌, pos, List, [], Option, Some, None, Result, Ok, Err}
+use Rattle.std.specs.Prelude.{◌≡◌, ◌⊎◌, ℕ, ◌<◌, ◌≤◌, ◌+◌, ◌-◌, ◌^◌, pos, List, [], Option, Some, None, Result, Ok, Err}
 use Rattle.std.specs.FinMap as map
 use Rattle.std.specs.Global.{Vec}
 use Rattle.snmp_ber.specs.declared.level.Level.{Level}
@@ -21,10 +21,11 @@ use Rattle.snmp_manager.specs.declared.pending.Pending.{Pending}
 use Rattle.snmp_requests.specs.declared.answered.AnsweredRequest.{AnsweredRequest}
 use Rattle.snmp_requests.specs.declared.outstanding.TheConstants.{REQUESTS_LIMIT}
 use Rattle.snmp_requests.specs.Answering.{TellsAnswered}
-use Rattle.snmp_requests.specs.Outstanding.{HasNoToken, IsAdded, IsEnded, IsNextToken, Outstanding, message_id_of}
+use Rattle.snmp_requests.specs.Outstanding.{HasNoToken, IsAdded, IsEnded, IsNextToken, Outstanding, from_token}
+use Rattle.snmp_requests.specs.Outstanding.{message_id_of}
 use Rattle.snmp_requests.specs.Outstanding.{Waits as IsWaiting}
 use Rattle.snmp_handles.specs.Numbers.{level_of}
-use Rattle.snmp_handles.specs.Managers.{Asking, AsksAt, IsOutOfRange, ManagerHeld, RefusesRequest}
+use Rattle.snmp_handles.specs.Managers.{Asking, IsOutOfRange, IsRequestText, ManagerHeld, RefusesRequest}
 use Rattle.snmp_handles.specs.Asked.{AnswersRequest, RemembersAsking}
 use Rattle.snmp_handles.specs.declared.fault.CallFault.{CallFault}
 use Rattle.snmp_handles.specs.declared.fault.CallFault.TheVariants.{Refused, BadArgument, NothingTaken, BadBindings}
@@ -35,9 +36,13 @@ pub record HasRoom (all : Outstanding) (first token : ℕ) : Type 0 where
   pub few : map.len all.requests < REQUESTS_LIMIT
   pub next : IsNextToken all first token
 
+-- no token is left, which is so only where nearly all were given
+abbrev pub HasNoTokenLeft : Outstanding → ℕ → Type 0
+HasNoTokenLeft all first = HasNoToken all first × (2 ^ 64 - 1 ≤ from_token all.next first + REQUESTS_LIMIT)
+
 -- as many wait as may, or no token is left
 abbrev pub HasNoRoom : Outstanding → ℕ → Type 0
-HasNoRoom all first = (REQUESTS_LIMIT ≤ map.len all.requests) ⊎ HasNoToken all first
+HasNoRoom all first = (REQUESTS_LIMIT ≤ map.len all.requests) ⊎ HasNoTokenLeft all first
 
 -- the same request with the msgID of this token
 abbrev pub with_id : Asking → ℕ → Asking
@@ -79,7 +84,7 @@ RefusesAsk held now ask list salt _ = ⊥
 abbrev pub AsksHeld : ManagerHeld → ℕ → Asking → List ℕ → List ℕ → Result ℕ CallFault → ManagerHeld → Type 0
 AsksHeld old now ask list salt (Ok token) new = (IsOutOfRange ask → ⊥) × HasRoom old.requests ask.id token
     × ((level : Level) × (text : List ℕ) × (a : Pending) × (level_of ask.level ≡ Some level)
-    × AsksAt old.manager now (with_id ask token) level list salt (Ok text)
+    × IsRequestText old.manager now (with_id ask token) level list salt text
     × RemembersAsking a (with_id ask token) level × WaitsToo old text token a new)
 AsksHeld old now ask list salt (Err fault) new = RefusesAsk old now ask list salt fault × (new ≡ old)
 

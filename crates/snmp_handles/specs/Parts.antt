@@ -12,8 +12,10 @@
 use Rattle.std.specs.Prelude.{◌==◌, if◌then◌else◌, ◌≡◌, ◌<◌, ◌≤◌, ℕ, ℤ, pos, List, [], ◌∷◌, ◌++◌, length, drop}
 use Rattle.std.specs.Prelude.{Option, Some, None, Result, Ok, Err}
 use Rattle.snmp_ber.specs.Level.{level_number}
+use Rattle.snmp_ber.specs.declared.number.TheConstants.{MAX_INTEGER32}
 use Rattle.snmp_message.specs.Scoped.{Contexts, ScopedFront}
 use Rattle.snmp_msg.specs.Pdu.{PduParts, PduText}
+use Rattle.usm_core.specs.Authentic.{HasEngineLength}
 use Rattle.snmp_incoming.specs.Outcome.{Given}
 use Rattle.snmp_handles.specs.declared.fault.CallFault.{CallFault}
 use Rattle.snmp_handles.specs.declared.fault.CallFault.TheVariants.{NothingTaken, ShortBuffer}
@@ -34,10 +36,10 @@ Copies octets old new written (Err _) = ⊥
 abbrev pub IsPartOf : Given → Part → List ℕ → Type 0
 IsPartOf g Bindings octets = (c : Contexts) → ScopedFront g.text c
     → (p : PduParts) × PduText c.pdu p × (octets ≡ p.list)
-IsPartOf g User octets = octets ≡ g.user
+IsPartOf g User octets = (octets ≡ g.user) × (length octets ≤ 32)
 IsPartOf g ContextEngine octets = (c : Contexts) → ScopedFront g.text c → octets ≡ c.engine
 IsPartOf g ContextName octets = (c : Contexts) → ScopedFront g.text c → octets ≡ c.name
-IsPartOf g Engine octets = octets ≡ g.engine
+IsPartOf g Engine octets = (octets ≡ g.engine) × HasEngineLength octets
 
 -- the part of a number
 abbrev pub part_of : ℕ → Option Part
@@ -73,8 +75,9 @@ abbrev pub AreNumbersOf : Given → List ℤ → Type 0
 AreNumbersOf g numbers = (c : Contexts) → ScopedFront g.text c
     → (p : PduParts) × PduText c.pdu p × (numbers ≡ numbers_of g p)
 
--- the sender's msgMaxSize, of what is kept
+-- the sender's msgMaxSize, of what is kept (RFC 3412, section 6.3)
 abbrev pub TellsMaxSize : Option Given → Result ℕ CallFault → Type 0
 TellsMaxSize last (Ok size) = (g : Given) × (last ≡ Some g) × (size ≡ g.max_size)
+    × (484 ≤ size) × (size ≤ MAX_INTEGER32)
 TellsMaxSize last (Err NothingTaken) = last ≡ None
 TellsMaxSize last (Err _) = ⊥

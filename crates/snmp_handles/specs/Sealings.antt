@@ -3,14 +3,15 @@
 --
 -- `Sealing`: how it is sealed, and for whom. `sealed_as`: the message. `HasNoHeader`, `IsUnsealable`: a number,
 -- a length or the ScopedPDU is out of its range. `SealsHeld`: the message is left to be sent.
-use Rattle.std.specs.Prelude.{◌≡◌, ◌<◌, ◌⊎◌, ℕ, Bool, List, length, Some, None, Result, Ok, Err, IfSome}
+use Rattle.std.specs.Prelude.{◌≡◌, ◌<◌, ◌+◌, ◌⊎◌, ℕ, Bool, List, length, Some, None, Result, Ok, Err, IfSome}
 use Rattle.snmp_ber.specs.Element.{IsElement}
 use Rattle.snmp_ber.specs.declared.level.Level.{Level}
 use Rattle.snmp_ber.specs.declared.number.TheConstants.{MAX_INTEGER32}
 use Rattle.snmp_message.specs.Spelling.{HeaderFits}
 use Rattle.snmp_message.specs.declared.header.Header.{Header}
 use Rattle.snmp_message.specs.declared.refusal.Refusal.{Refusal}
-use Rattle.snmp_message.specs.declared.refusal.Refusal.TheVariants.{OutOfMemory}
+use Rattle.snmp_message.specs.declared.message.TheConstants.{LARGEST}
+use Rattle.snmp_message.specs.declared.refusal.Refusal.TheVariants.{OutOfMemory, TooLarge}
 use Rattle.usm_core.specs.Sealed.{Sending, Seals, IsSealable}
 use Rattle.usm_core.specs.Table.{refusal_answer}
 use Rattle.usm_users.specs.User.{User}
@@ -99,10 +100,12 @@ pub record HasHeader (s : Sealing) (h : Header) : Type 0 where
 
 -- ---- what sealing leaves
 
--- What `Seals` refuses the message for; or memory ran out, once none of its rows before the text refuses it.
+-- What `Seals` refuses the message for; or memory ran out, once none of its rows before the text refuses it. It is too
+-- large only where its parts leave less room for the rest than 150 octets.
 abbrev pub StopsSealing : List User → Sending → Refusal → Type 0
 StopsSealing users m fault = IfSome (refusal_answer fault) (Seals users m)
     × (fault ≡ OutOfMemory → IsSealable users m)
+    × (fault ≡ TooLarge → LARGEST < 150 + length m.engine + length m.user + length m.scoped)
 
 abbrev pub RefusesSealing : ManagerHeld → Sealing → List ℕ → List ℕ → CallFault → Type 0
 RefusesSealing held s salt scoped BadArgument = IsUnsealable s scoped

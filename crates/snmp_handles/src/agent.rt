@@ -9,19 +9,18 @@ ghost use Rattle.vacm_core.specs.Allowed.{Allowed};
 ghost use Rattle.snmp_handles.specs.Agents.{Clears, IsOwnEngine, MakesAgent, TakesHeld, TakesNoMemory, AllowsHeld};
 ghost use Rattle.snmp_handles.specs.Agents.{MaySee, Counts, RespondsHeld, NotifiesHeld};
 ghost use Rattle.snmp_handles.specs.Parts.{CopiesPart, CopiesMessage, AreNumbersOf};
-ghost use Rattle.snmp_handles.specs.Between.{AnswersResponse, AnswersNotice, notice_of};
+ghost use Rattle.snmp_handles.specs.Between.{AnswersNotice, notice_of};
 
 use crate::bindings::bindings_of;
-use crate::dispatch::can_answer;
 use crate::fault::CallFault;
-use crate::in_range::{NoticeInRange, Reply};
+use crate::in_range::NoticeInRange;
 use crate::numbers::{level_of, view_of};
 use crate::parts::{Part, copied_message, copied_part, numbers_of};
 use engine_clock::EngineId;
-use snmp_agent::Agent;
+use snmp_agent::{Agent, no_text_is_longer};
 use snmp_ber::{MAX_INTEGER32, Oid};
 use snmp_incoming::Kept;
-use snmp_msg::{PduType, Refusal};
+use snmp_msg::{LARGEST, PduType, Refusal};
 use snmp_outgoing::Front;
 use snmpsec_config::{Config, ConfigFault};
 use std::alloc::Global;
@@ -93,29 +92,6 @@ fn access_of_sender(agent: &Agent, kept: &Kept, view: ViewType, variable: &Oid) 
 {
     let taken = kept.taken();
     agent.allows(&taken, view, variable)
-}
-
-/// The Response to what was kept, which says this.
-fn response(
-    alloc: Global,
-    agent: &mut Agent,
-    now: u64,
-    kept: &Kept,
-    reply: &Reply<'_>,
-) -> Result<Vec<u8>, CallFault>
-    ensures answer { AnswersResponse agent.old now kept.now reply.now.status
-        reply.now.index reply.now.list.now
-        reply.now.salt result }
-    ensures same { agent.new ≡ agent.old }
-{
-    can_answer(agent, now, kept)?;
-    let taken = kept.taken();
-    let bindings = bindings_of(alloc, reply.list)?;
-    let (status, index) = (reply.status as i32, reply.index as i32);
-    match agent.respond_of(now, &taken, status, index, &bindings, reply.salt) {
-        Ok(text) => Ok(text),
-        Err(fault) => Err(CallFault::Refused(fault.refusal)),
-    }
 }
 
 /// The notification that says this, with the bindings that these octets are.
@@ -306,19 +282,8 @@ impl AgentHandle {
         ensures { RespondsHeld self.old now status index list.now
             (to_be_bytes w64 salt) result self.new }
     {
-        let Some(reply) = Reply::of(status, index, list, salt) else {
-            return Err(CallFault::BadArgument);
-        };
-        let Some(kept) = &self.last else {
-            return Err(CallFault::NothingTaken);
-        };
-        match response(self.alloc, &mut self.agent, now, kept, &reply) {
-            Ok(text) => {
-                self.message = Some(text);
-                Ok(())
-            }
-            Err(fault) => Err(fault),
-        }
+        no_text_is_longer();
+        self.respond_within(now, status, index, list, salt, LARGEST as u32)
     }
 
     /// Writes an SNMPv2-Trap with the bindings that these octets are, as `Agent::notify` does, and leaves it

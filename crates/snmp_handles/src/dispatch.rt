@@ -12,6 +12,7 @@ ghost use Rattle.snmp_handles.specs.Between.{CannotAnswer};
 ghost use Rattle.snmp_handles.specs.Parts.{TellsMaxSize};
 ghost use Rattle.snmp_handles.specs.Dispatch.{RespondsHeldWithin, RespondsHeldFront, AnswersWithin, AnswersFront};
 ghost use Rattle.snmp_handles.specs.Dispatch.{AnswersReport, IsHandled, TellsUnhandled, ReportsHeld};
+ghost use Rattle.snmp_handles.specs.Dispatch.{CountsRoom, FitsHeld};
 
 use crate::agent::AgentHandle;
 use crate::bindings::bindings_of;
@@ -20,7 +21,7 @@ use crate::in_range::Reply;
 use crate::parts::max_size_of;
 use snmp_agent::{Agent, Unhandled};
 use snmp_incoming::Kept;
-use snmp_msg::is_confirmed;
+use snmp_msg::{Refusal, is_confirmed};
 use snmp_outgoing::{Counter, Fronted};
 use std::alloc::Global;
 
@@ -59,16 +60,7 @@ fn response_within(
     can_answer(agent, now, kept)?;
     let taken = kept.taken();
     let bindings = bindings_of(alloc, reply.list)?;
-    let (status, index) = (reply.status as i32, reply.index as i32);
-    match agent.respond_within_of(
-        now,
-        &taken,
-        status,
-        index,
-        &bindings,
-        reply.salt,
-        limit as usize,
-    ) {
+    match agent.write_response(now, &taken, &reply.within(limit), &bindings) {
         Ok(text) => Ok(text),
         Err(fault) => Err(CallFault::Refused(fault.refusal)),
     }
@@ -92,11 +84,32 @@ fn response_front(
     can_answer(agent, now, kept)?;
     let taken = kept.taken();
     let bindings = bindings_of(alloc, reply.list)?;
-    let (status, index) = (reply.status as i32, reply.index as i32);
-    let limit = limit as usize;
-    match agent.respond_front(now, &taken, status, index, &bindings, reply.salt, limit) {
+    match agent.respond_front(now, &taken, &reply.within(limit), &bindings) {
         Ok(fronted) => Ok(fronted),
         Err(fault) => Err(CallFault::Refused(fault.refusal)),
+    }
+}
+
+/// How many of the bindings, from the first on, have room in the Response to what was kept, which says this, within
+/// `limit` octets.
+fn room_of(
+    alloc: Global,
+    agent: &Agent,
+    now: u64,
+    kept: &Kept,
+    reply: &Reply<'_>,
+    limit: u32,
+) -> Result<usize, CallFault>
+    ensures { CountsRoom agent.now now kept.now reply.now.status
+        reply.now.index reply.now.list.now
+        reply.now.salt limit result }
+{
+    can_answer(agent, now, kept)?;
+    let taken = kept.taken();
+    let bindings = bindings_of(alloc, reply.list)?;
+    match agent.fits(now, &taken, &reply.within(limit), &bindings) {
+        Some(count) => Ok(count),
+        None => Err(CallFault::Refused(Refusal::TooLarge)),
     }
 }
 
@@ -136,7 +149,7 @@ impl AgentHandle {
     }
 
     /// What `respond` writes where that has at most `limit` octets, and else TooLarge (16), as
-    /// `Agent::respond_within` does. On an error nothing changes.
+    /// `Agent::write_response` does. On an error nothing changes.
     ///
     /// The errors are those of `respond`, in its order.
     pub fn respond_within(
@@ -197,6 +210,30 @@ impl AgentHandle {
             }
             Err(fault) => Err(fault),
         }
+    }
+
+    /// How many of the bindings, from the first on, have room in the Response within `limit` octets, as `Agent::fits`
+    /// does: as many as `respond_front` would answer with. No key is used, and nothing is written.
+    ///
+    /// The errors are those of `respond_front`, in its order.
+    pub fn fits(
+        &self,
+        now: u64,
+        status: u32,
+        index: u32,
+        list: &[u8],
+        salt: u64,
+        limit: u32,
+    ) -> Result<usize, CallFault>
+        ensures { FitsHeld self.now now status index list.now (to_be_bytes w64 salt) limit result }
+    {
+        let Some(reply) = Reply::of(status, index, list, salt) else {
+            return Err(CallFault::BadArgument);
+        };
+        let Some(kept) = &self.last else {
+            return Err(CallFault::NothingTaken);
+        };
+        room_of(self.alloc, &self.agent, now, kept, &reply, limit)
     }
 
     /// Why no application of the agent answers what is kept, as `Agent::unhandled` has it, or None where it

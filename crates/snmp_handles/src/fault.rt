@@ -1,14 +1,11 @@
 //! Why a call of a handle isn't done.
 
 ghost use Rattle.std.specs.Prelude.{◌≡◌};
-ghost use Rattle.snmp_handles.specs.Faults.{code, access_code, value_code, answer_code, fault_code, unhandled_code};
-ghost use Rattle.snmp_handles.specs.Faults.{IsStatusCode};
+ghost use Rattle.snmp_handles.specs.Faults.{code, fault_code, unhandled_code, IsStatusCode};
 
 use crate::numbers::{access_of, unhandled_number};
 use snmp_agent::{Unhandled, status_of};
-use snmp_manager::Answer;
 use snmp_msg::Refusal;
-use vacm_core::Access;
 
 /// Why a call of a handle isn't done.
 #[derive(Clone, Copy, Debug, PartialEq, Eq)]
@@ -60,39 +57,6 @@ pub fn code_of(told: Result<(), CallFault>) -> i32
 {
     match told {
         Ok(()) => 0,
-        Err(fault) => fault.code(),
-    }
-}
-
-/// The number of an answer on access, 0 to 5 as `Access::number` has it, or the fault's.
-pub fn access_code_of(told: Result<Access, CallFault>) -> i32
-    ensures { result ≡ access_code told }
-{
-    match told {
-        Ok(access) => i32::from(access.number()),
-        Err(fault) => fault.code(),
-    }
-}
-
-/// The value, or the fault's number.
-pub fn value_code_of(told: Result<u32, CallFault>) -> i64
-    ensures { result ≡ value_code told }
-{
-    match told {
-        Ok(value) => i64::from(value),
-        Err(fault) => i64::from(fault.code()),
-    }
-}
-
-/// The number of what an accepted message is to a request: 0 its Response, 1 neither, 10 a Report that names
-/// no counter, and 11 to 16 a Report of the counter 1 to 6; or the fault's.
-pub fn answer_code_of(told: Result<Answer, CallFault>) -> i32
-    ensures { result ≡ answer_code told }
-{
-    match told {
-        Ok(Answer::Response) => 0,
-        Ok(Answer::NotForIt) => 1,
-        Ok(Answer::Report(n)) => 10 + i32::from(n),
         Err(fault) => fault.code(),
     }
 }

@@ -1,6 +1,6 @@
 //! What callers hand in as plain numbers and octets, once each number and each length is in its range.
 
-ghost use Rattle.std.specs.Prelude.{◌≡◌, ◌<◌, ◌≤◌, ◌⊎◌, ◌↔◌, IsTrue, MatchOption, Some, length};
+ghost use Rattle.std.specs.Prelude.{◌≡◌, ◌<◌, ◌≤◌, ◌⊎◌, ◌↔◌, IsTrue, MatchOption, Some, length, pos};
 ghost use Rattle.std.specs.Int.{to_be_bytes, w64};
 ghost use Rattle.snmp_ber.specs.declared.number.TheConstants.{MAX_INTEGER32};
 ghost use Rattle.snmp_msg.specs.PduTypes.{IsPduTag};
@@ -10,6 +10,7 @@ use crate::agent::NoticeTo;
 use crate::manager::AskedOf;
 use crate::numbers::level_of;
 use engine_clock::EngineId;
+use snmp_agent::Response;
 use snmp_ber::{Level, MAX_INTEGER32};
 
 /// What a Response says besides what it copies.
@@ -42,6 +43,23 @@ impl<'a> Reply<'a> {
             list,
             salt: salt.to_be_bytes(),
         })
+    }
+
+    /// The same besides its bindings, in at most so many octets.
+    pub(crate) fn within(&self, limit: u32) -> Response
+        ensures { result ≡ record {
+          status = pos self.now.status;
+          index = pos self.now.index;
+          salt = self.now.salt;
+          limit = limit;
+        } }
+    {
+        Response {
+            status: self.status as i32,
+            index: self.index as i32,
+            salt: self.salt,
+            limit: limit as usize,
+        }
     }
 }
 

@@ -43,10 +43,7 @@ mod walks;
 pub use agent::{AgentHandle, NoticeTo};
 pub use bindings::{bindings_of, read_binding_at, write_binding};
 pub use configuration::tell_config;
-pub use fault::{
-    CallFault, access_code_of, answer_code_of, code_of, status_code_of, unhandled_code_of,
-    value_code_of,
-};
+pub use fault::{CallFault, code_of, status_code_of, unhandled_code_of};
 pub use kept::KeptHandle;
 pub use manager::{AskedOf, ManagerHandle};
 pub use numbers::{counter_of, level_of, unhandled_of, view_of};

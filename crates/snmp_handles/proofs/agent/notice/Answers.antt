@@ -5,8 +5,9 @@ use Rattle.snmp_msg.specs.Variables.{Variable, bound_variable}
 use Rattle.snmp_msg.specs.declared.variable.VariableBinding.{VariableBinding}
 use Rattle.usm_core.specs.Table.{refusal_answer}
 use Rattle.snmp_outgoing.specs.Speaks.{spoken}
-use Rattle.snmp_agent.specs.Sent.{Sends, CanSendAt}
-use Rattle.snmp_handles.specs.Agents.{trap, NotifiesAt}
+use Rattle.snmp_incoming.specs.Outcome.{own_pair}
+use Rattle.snmp_agent.specs.Sent.{Sends, CanSendAt, IsAcceptedByManagers}
+use Rattle.snmp_handles.specs.Agents.{GoesOutAs, trap, NotifiesAt}
 use Rattle.snmp_handles.specs.Between.{notice_of}
 use Rattle.snmp_handles.proofs.Told.{if_told}
 use Rattle.snmp_handles.proofs.agent.notice.Goals as goal
@@ -16,8 +17,14 @@ returns-in-Ok-clause-answer c =
     let request : to_z w32 c.args.notice.now.to.request_id ≡ pos c.args.notice.now.to.request_id = search rules in
     let vs : List Variable = map bound_variable c.in_ok-bindings.bindings.items in
     let lent : map bound_variable c.deref.result.now ≡ vs = ap (λ (bs : List VariableBinding). map bound_variable bs) c.deref.ensures.value in
-    let R : List Variable → Type 0 = λ xs. Sends c.args.agent.now c.args.now (λ own. spoken (trap c.args.agent.now.engine own (notice_of c.args.notice.now.to) c.args.notice.now.level xs c.args.salt)) (Ok c.in-Ok.text.items) in
-    let rows : R (map bound_variable c.deref.result.now) = rw (c.tag.ensures.value, request) at c.in-Ok.ensures.answer in
+    let agent = c.args.agent.now in
+    let text = c.in-Ok.text.items in
+    let S : List Variable → Type 0 = λ xs. Sends agent c.args.now (λ own. spoken (trap agent.engine own (notice_of c.args.notice.now.to) c.args.notice.now.level xs c.args.salt)) (Ok text) in
+    let A : List Variable → Type 0 = λ xs. IsAcceptedByManagers agent.users (trap agent.engine (own_pair agent.boots agent.started c.args.now) (notice_of c.args.notice.now.to) c.args.notice.now.level xs c.args.salt) text in
+    let R : List Variable → Type 0 = λ xs. GoesOutAs agent c.args.now (λ own. trap agent.engine own (notice_of c.args.notice.now.to) c.args.notice.now.level xs c.args.salt) text in
+    let sent : S (map bound_variable c.deref.result.now) = rw (c.tag.ensures.value, request) at c.in-Ok.ensures.answer in
+    let accepted : A (map bound_variable c.deref.result.now) = rw (c.tag.ensures.value, request) at c.in-Ok.ensures.accepted in
+    let rows : R (map bound_variable c.deref.result.now) = (sent, accepted) in
     (vs, c.in_ok-bindings.ensures.all, subst R lent rows)
 
 pub returns-clause-answer : goal.returns-clause-answer

@@ -18,7 +18,7 @@ returns-in-Bindings c =
 pub returns-in-User : goal.returns-in-User
 returns-in-User c =
     let octets : List ℕ = c.taken-taken.result.user.now in
-    let of_kept : IsPartOf c.args.kept.now User octets = ap (λ (g : Given). g.user) c.taken-taken.ensures in
+    let of_kept : IsPartOf c.args.kept.now User octets = (ap (λ (g : Given). g.user) c.taken-taken.ensures, c.taken-taken.result.user_fits) in
     (octets, subst (λ (part : Part). IsPartOf c.args.kept.now part octets) (sym c.in-User.is) of_kept, c.copy_to-in-User.ensures)
 
 pub returns-in-ContextEngine : goal.returns-in-ContextEngine
