@@ -7,7 +7,9 @@ use Rattle.snmp_handles.specs.Agents.{AgentHeld, RespondsHeld}
 use Rattle.snmp_handles.specs.Dispatch.{RespondsHeldWithin, RespondsHeldFront}
 use Rattle.snmp_handles.specs.Kept.{WithKept, holding}
 use Rattle.snmp_handles.specs.declared.fault.CallFault.{CallFault}
-use Rattle.snmp_c.specs.Calls.{RespondsTo, RespondsToWithin, RespondsToFront}
+use Rattle.snmp_c.specs.declared.agent_asked.AgentAsked.{AgentAsked}
+use Rattle.snmp_c.specs.declared.agent_asked.AgentSaid.{AgentSaid}
+use Rattle.snmp_c.specs.AgentCalls.{RespondsTo, RespondsToWithin, RespondsToFront}
 
 responds : (old new : AgentHeld) (now status index : ℕ) (list salt : List ℕ) (told : Result ⊤ CallFault)
     → RespondsHeld old now status index list salt told new → new.last ≡ old.last
@@ -37,17 +39,15 @@ with_kept Does stays old first second new kept between kept_new first_is between
     let at_new : Does (holding kept old) (holding kept new) = subst (λ (after : AgentHeld). Does (holding kept old) (holding kept after)) (sym back) done in
     (at_new, ap (λ (held : AgentHeld). held.last) back, kept_is ∙ same)
 
-pub answers_stay : (now status index : ℕ) (list : List ℕ) (salt : ℕ) (answer : ℤ) (before after : AgentHeld)
-    → RespondsTo now status index list salt before after answer → after.last ≡ before.last
-answers_stay now status index list salt answer before after (told, is, says) =
-    responds before after now status index list (to_be_bytes w64 salt) told says
+pub answers_stay : (asked : AgentAsked) (answer : ℤ) (before after : AgentHeld) → RespondsTo asked before after answer → after.last ≡ before.last
+answers_stay asked answer before after (told, is, says) =
+    responds before after asked.moment asked.status asked.index asked.octets.now (to_be_bytes w64 asked.salt) told says
 
-pub answers_within_stay : (now status index : ℕ) (list : List ℕ) (salt limit : ℕ) (answer : ℤ) (before after : AgentHeld)
-    → RespondsToWithin now status index list salt limit before after answer → after.last ≡ before.last
-answers_within_stay now status index list salt limit answer before after (told, is, says) =
-    responds_within before after now status index list (to_be_bytes w64 salt) limit told says
+pub answers_within_stay : (asked : AgentAsked) (answer : ℤ) (before after : AgentHeld) → RespondsToWithin asked before after answer → after.last ≡ before.last
+answers_within_stay asked answer before after (told, is, says) =
+    responds_within before after asked.moment asked.status asked.index asked.octets.now (to_be_bytes w64 asked.salt) asked.limit told says
 
-pub answers_front_stay : (now status index : ℕ) (list : List ℕ) (salt limit count count_new : ℕ) (answer : ℤ) (before after : AgentHeld)
-    → RespondsToFront now status index list salt limit count count_new before after answer → after.last ≡ before.last
-answers_front_stay now status index list salt limit count count_new answer before after (told, is, says, counts) =
-    responds_front before after now status index list (to_be_bytes w64 salt) limit told says
+pub answers_front_stay : (asked : AgentAsked) (said said_new : AgentSaid) (answer : ℤ) (before after : AgentHeld)
+    → RespondsToFront asked said said_new before after answer → after.last ≡ before.last
+answers_front_stay asked said said_new answer before after (told, is, says, tells) =
+    responds_front before after asked.moment asked.status asked.index asked.octets.now (to_be_bytes w64 asked.salt) asked.limit told says

@@ -1,8 +1,9 @@
 -- One request of a device whose engine ID, or whose boots and time, may be unknown, by numbers (RFC 3414, section 4).
 --
 -- `sent_of`, `known_of`, `heard_of`: what was sent, what is known and what is heard, by number; `message_number`,
--- `sent_number`, `step_code`: the numbers that are answered. `BeginsDevice`, `HearsDevice`: what the exports answer.
-use Rattle.std.specs.Prelude.{◌≡◌, ◌==◌, if◌then◌else◌, nat_eq, nat_lt, not, ℕ, ℤ, pos, negsuc, ◌+◌, Bool, true, false}
+-- `sent_number`, `tells_step`: the numbers that are written. `BeginsDevice`, `HearsDevice`: what the exports answer and
+-- write.
+use Rattle.std.specs.Prelude.{◌≡◌, ◌==◌, if◌then◌else◌, nat_eq, nat_lt, not, ℕ, ℤ, pos, negsuc, Bool, true, false}
 use Rattle.std.specs.Prelude.{Option, Some, None, MatchOption}
 use Rattle.snmp_ber.specs.declared.level.Level.{Level}
 use Rattle.snmp_requests.specs.declared.device_request.DeviceRequest.{DeviceRequest}
@@ -16,6 +17,7 @@ use Rattle.snmp_requests.specs.declared.device_request.SentMessage.{SentMessage}
 use Rattle.snmp_requests.specs.declared.device_request.SentMessage.TheVariants.{Discovery, TimeRequest, Request}
 use Rattle.snmp_requests.specs.DeviceRequests.{Hears, first_message}
 use Rattle.snmp_handles.specs.Numbers.{level_of}
+use Rattle.snmp_c.specs.declared.devices.DeviceSaid.{DeviceSaid}
 
 abbrev pub is_set : ℕ → Bool
 is_set n = not (nat_eq n 0)
@@ -48,36 +50,36 @@ abbrev pub bool_number : Bool → ℕ
 bool_number false = 0
 bool_number true = 1
 
--- what is to be sent, 3 to wait, 4 where it is answered, and 10 and more where the counter of the rest refuses it
-abbrev pub step_code : NextStep → ℤ
-step_code (Send m) = pos (message_number m)
-step_code Wait = pos 3
-step_code Answered = pos 4
-step_code (Refused counter) = pos (10 + counter)
+-- what is to be sent, 3 to wait, 4 where it is answered, 5 where this counter refuses it
+abbrev pub tells_step : DeviceSaid → NextStep → DeviceSaid
+tells_step said (Send m) = record said { step = message_number m }
+tells_step said Wait = record said { step = 3 }
+tells_step said Answered = record said { step = 4 }
+tells_step said (Refused counter) = record said { step = 5; counter = counter }
 
-abbrev pub BeginsDevice : ℕ → ℕ → ℤ → Type 0
-BeginsDevice level known answer = MatchOption (level_of level) (answer ≡ negsuc 0)
-    (λ l. MatchOption (known_of known) (answer ≡ negsuc 0) (λ k. answer ≡ pos (message_number (first_message l k))))
+abbrev pub BeginsDevice : ℕ → ℕ → ℕ → ℕ → ℤ → Type 0
+BeginsDevice level known sent sent_new answer = MatchOption (level_of level) ((answer ≡ negsuc 0) × (sent_new ≡ sent))
+    (λ l. MatchOption (known_of known) ((answer ≡ negsuc 0) × (sent_new ≡ sent))
+    (λ k. (answer ≡ pos 0) × (sent_new ≡ message_number (first_message l k))))
 
 -- nothing is written
-pub record IsFault (sent sent_new again again_new : ℕ) (answer : ℤ) : Type 0 where
+pub record IsFault (said said_new : DeviceSaid) (answer : ℤ) : Type 0 where
   pub answer_is : answer ≡ negsuc 0
-  pub sent_is : sent_new ≡ sent
-  pub again_is : again_new ≡ again
+  pub said_is : said_new ≡ said
 
 -- what is to be done and what is left, of a request of this level of which this was sent last
-pub record HearsBy (l : Level) (m : Option SentMessage) (again : ℕ) (h : Heard) (holds sent_new again_new : ℕ)
+pub record HearsBy (l : Level) (m : Option SentMessage) (h : Heard) (holds : ℕ) (said said_new : DeviceSaid)
     (answer : ℤ) : Type 0 where
   pub step : NextStep
   pub new : DeviceRequest
-  pub hears : Hears (record { level = l; sent = m; again = is_set again; hint = None }) h (is_set holds) step new
-  pub answer_is : answer ≡ step_code step
-  pub sent_is : sent_new ≡ sent_number new.sent
-  pub again_is : again_new ≡ bool_number new.again
+  pub hears : Hears (record { level = l; sent = m; again = is_set said.again; hint = None }) h (is_set holds) step new
+  pub answer_is : answer ≡ pos 0
+  pub said_is : said_new
+      ≡ tells_step (record said { sent = sent_number new.sent; again = bool_number new.again }) step
 
-abbrev pub HearsDevice : ℕ → ℕ → ℕ → ℕ → ℕ → ℕ → ℕ → ℕ → ℕ → ℤ → Type 0
-HearsDevice level kind counter authentic holds sent sent_new again again_new answer =
-    MatchOption (level_of level) (IsFault sent sent_new again again_new answer)
-    (λ l. MatchOption (sent_of sent) (IsFault sent sent_new again again_new answer)
-    (λ m. MatchOption (heard_of kind counter authentic) (IsFault sent sent_new again again_new answer)
-    (λ h. HearsBy l m again h holds sent_new again_new answer)))
+abbrev pub HearsDevice : ℕ → ℕ → ℕ → ℕ → ℕ → DeviceSaid → DeviceSaid → ℤ → Type 0
+HearsDevice level kind counter authentic holds said said_new answer =
+    MatchOption (level_of level) (IsFault said said_new answer)
+    (λ l. MatchOption (sent_of said.sent) (IsFault said said_new answer)
+    (λ m. MatchOption (heard_of kind counter authentic) (IsFault said said_new answer)
+    (λ h. HearsBy l m h holds said said_new answer)))

@@ -1,30 +1,39 @@
--- What the calls on a gateway answer and leave.
+-- What the calls on a gateway answer, tell and leave.
 --
--- `MakesGateway`: the answer of `_new`; `ReadsConfiguration`: that of `_read`. `TakesFromClient`, `TakesFromDevice`,
--- `SendsDue`: the answer is the number of what becomes of a datagram and of what goes out (`Eventful`). `TellsDue`,
--- `TellsDatagram`, `TellsClientOf`, `TellsContextOf`, `TellsSetting`, `TellsMayNotify`, `TellsNumbersOf`,
--- `GateCounter`, `GateCount`, `ClearsGate`: what each export answers and leaves. `TellsGateConfiguration`,
--- `TellsUser`: those without a handle.
-use Rattle.std.specs.Prelude.{◌≡◌, ◌≤◌, ◌<◌, ◌⊎◌, ℕ, ℤ, pos, List, ◌++◌, length, drop, MatchOption, Some, None, Result}
+-- `gate_call_of`: the call of a number. `GateCalled`: what is answered, told and left where so is asked, by cases on
+-- the call (`GateDoes`); what a call doesn't tell stays as it was. `TakesFromClient`, `TakesFromDevice`, `SendsDue`:
+-- what becomes of a datagram, and what goes out (`tells_event`). `TellsDue`, `TellsGateInfo`, `TellsMayNotify`,
+-- `GateCounter`, `GateCount`: those that leave the gateway as it was. `GateCopies`: what is copied, by its numbers
+-- (`gate_copied_of`). `MakesGateway`: the answer of `_new`; `ReadsConfiguration`: that of `_read`. `ClearsGate`: all is
+-- given back. `TellsGateConfiguration`, `TellsUser`: those without a handle.
+use Rattle.std.specs.Prelude.{◌==◌, if◌then◌else◌, ◌≡◌, ◌⊎◌, ⊤, ℕ, ℤ, pos, List, Option, Some, None, MatchOption}
+use Rattle.std.specs.Prelude.{option_map, Result}
 use Rattle.std.specs.Int.{to_be_bytes, w64}
+use Rattle.vacm_core.specs.declared.access.Access.{Access}
+use Rattle.vacm_core.specs.Numbers.{access_number}
+use Rattle.snmp_message.specs.Numbers.{refusal_number}
+use Rattle.snmp_message.specs.declared.refusal.Refusal.{Refusal}
 use Rattle.snmp_agent.specs.Counts.{count_at}
-use Rattle.snmp_handles.specs.Faults.{code, access_code, value_code, fault_code}
+use Rattle.snmp_handles.specs.Faults.{code, fault_code}
 use Rattle.snmp_handles.specs.Numbers.{counter_of}
 use Rattle.snmp_handles.specs.Parts.{CopiesMessage, CopiesNothing}
 use Rattle.snmp_handles.specs.declared.fault.CallFault.{CallFault}
-use Rattle.snmp_handles.specs.declared.fault.CallFault.TheVariants.{BadArgument, NothingTaken, ShortBuffer}
-use Rattle.gate_handles.specs.Events.{event_code}
+use Rattle.snmp_handles.specs.declared.fault.CallFault.TheVariants.{BadArgument, NothingTaken}
+use Rattle.gate_handles.specs.Events.{event_number, event_why}
 use Rattle.gate_handles.specs.Gates.{GateHeld, MakesGate, ReadsGate, TakesClient, TakesDevice, SendsNext, Empties}
 use Rattle.gate_handles.specs.Gates.{IsGateDue}
 use Rattle.gate_handles.specs.Told.{setting_of, ReadsContext, ReadsSetting, MayNotify, CountsOf, TellsGate, CopiesUser}
-use Rattle.gate_handles.specs.Told.{numbers_of}
-use Rattle.vacm_core.specs.declared.access.Access.{Access}
+use Rattle.gate_handles.specs.Told.{info_of}
 use Rattle.gate_handles.specs.declared.event.GateEvent.{GateEvent}
-use Rattle.snmp_c.specs.Calls.{Done}
+use Rattle.snmp_c.specs.declared.gate_asked.GateAsked.{GateAsked}
+use Rattle.snmp_c.specs.declared.gate_asked.GateSaid.{GateSaid}
+use Rattle.snmp_c.specs.declared.gate_asked.GateCall.{GateCall}
+use Rattle.snmp_c.specs.declared.gate_asked.GateCall.TheVariants as calls
+use Rattle.snmp_c.specs.declared.gate_copied.GateCopied.{GateCopied}
+use Rattle.snmp_c.specs.declared.gate_copied.GateCopied.TheVariants.{Message, Client, Context, Setting}
+use Rattle.snmp_c.specs.Calls.{Done, Telling}
 
--- The answer is the number of what is reported, of which this is said.
-abbrev pub Eventful : (Result GateEvent CallFault → Type 0) → ℤ → Type 0
-Eventful Says answer = (told : Result GateEvent CallFault) × (answer ≡ event_code told) × Says told
+-- ---- making one, and giving it back
 
 abbrev pub MakesGateway : List ℕ → ℕ → ℕ → ℤ → Type 0
 MakesGateway config boots started answer = (told : Result GateHeld CallFault) × (answer ≡ code told)
@@ -36,60 +45,99 @@ ReadsConfiguration config answer = (told : Result GateHeld CallFault) × (answer
 abbrev pub ClearsGate : GateHeld → GateHeld → ℤ → Type 0
 ClearsGate old new answer = Done (λ told. Empties old told new) answer
 
-abbrev pub TakesFromClient : ℕ → List ℕ → List ℕ → GateHeld → GateHeld → ℤ → Type 0
-TakesFromClient now client datagram old new answer =
-    Eventful (λ told. TakesClient old now client datagram told new) answer
+-- ---- what becomes of a datagram, and what goes out
 
-abbrev pub TakesFromDevice : ℕ → ℕ → List ℕ → GateHeld → GateHeld → ℤ → Type 0
-TakesFromDevice now device datagram old new answer =
-    Eventful (λ told. TakesDevice old now device datagram told new) answer
+-- the number of a refusal, or 0
+abbrev pub why_number : Option Refusal → ℕ
+why_number (Some refusal) = refusal_number refusal
+why_number None = 0
 
-abbrev pub SendsDue : ℕ → ℕ → ℕ → GateHeld → GateHeld → ℤ → Type 0
-SendsDue now salt ask_id old new answer =
-    Eventful (λ told. SendsNext old now (to_be_bytes w64 salt) ask_id told new) answer
+abbrev pub tells_event : GateSaid → GateEvent → GateSaid
+tells_event said event = record said { event = event_number event; why = why_number (event_why event) }
 
--- the moment is written where there is one
-abbrev pub TellsDue : ℕ → ℕ → GateHeld → GateHeld → ℤ → Type 0
-TellsDue at at_new old new answer = (new ≡ old)
-    × (((answer ≡ pos 0) × IsGateDue old.gate (Some at_new))
-    ⊎ ((answer ≡ fault_code NothingTaken) × (at_new ≡ at) × IsGateDue old.gate None))
+abbrev pub TakesFromClient : GateAsked → GateSaid → GateSaid → GateHeld → GateHeld → ℤ → Type 0
+TakesFromClient asked said said_new old new answer = Telling tells_event
+    (λ told. TakesClient old asked.moment asked.client.now asked.datagram.now told new) said said_new answer
 
-abbrev pub TellsDatagram : List ℕ → List ℕ → ℕ → ℕ → GateHeld → GateHeld → ℤ → Type 0
-TellsDatagram out out_new written written_new old new answer = (new ≡ old)
-    × Done (λ told. CopiesMessage old.message out out_new written written_new told) answer
+abbrev pub TakesFromDevice : GateAsked → GateSaid → GateSaid → GateHeld → GateHeld → ℤ → Type 0
+TakesFromDevice asked said said_new old new answer = Telling tells_event
+    (λ told. TakesDevice old asked.moment asked.device asked.datagram.now told new) said said_new answer
 
-abbrev pub TellsClientOf : List ℕ → List ℕ → ℕ → ℕ → GateHeld → GateHeld → ℤ → Type 0
-TellsClientOf out out_new written written_new old new answer = (new ≡ old)
-    × Done (λ told. CopiesMessage old.client out out_new written written_new told) answer
+abbrev pub SendsDue : GateAsked → GateSaid → GateSaid → GateHeld → GateHeld → ℤ → Type 0
+SendsDue asked said said_new old new answer = Telling tells_event
+    (λ told. SendsNext old asked.moment (to_be_bytes w64 asked.salt) asked.ask_id told new) said said_new answer
 
-abbrev pub TellsContextOf : ℕ → List ℕ → List ℕ → ℕ → ℕ → GateHeld → GateHeld → ℤ → Type 0
-TellsContextOf request out out_new written written_new old new answer = (new ≡ old)
-    × Done (λ told. ReadsContext old request out out_new written written_new told) answer
+-- ---- calls that leave the gateway as it was
 
-abbrev pub TellsSetting : ℕ → ℕ → List ℕ → List ℕ → ℕ → ℕ → GateHeld → GateHeld → ℤ → Type 0
-TellsSetting which position out out_new written written_new old new answer = (new ≡ old)
-    × MatchOption (setting_of which)
+-- the moment is reported where there is one
+abbrev pub TellsDue : GateSaid → GateSaid → GateHeld → GateHeld → ℤ → Type 0
+TellsDue said said_new old new answer = (new ≡ old)
+    × (((answer ≡ pos 0) × IsGateDue old.gate (Some said_new.due) × (said_new ≡ record said { due = said_new.due }))
+    ⊎ ((answer ≡ fault_code NothingTaken) × (said_new ≡ said) × IsGateDue old.gate None))
+
+abbrev pub TellsGateInfo : GateSaid → GateSaid → GateHeld → GateHeld → ℤ → Type 0
+TellsGateInfo said said_new old new answer =
+    (new ≡ old) × (answer ≡ pos 0) × (said_new ≡ record said { info = info_of old })
+
+abbrev pub TellsMayNotify : GateAsked → GateSaid → GateSaid → GateHeld → GateHeld → ℤ → Type 0
+TellsMayNotify asked said said_new old new answer = (new ≡ old)
+    × Telling (λ (s : GateSaid) (access : Access). record s { access = access_number access })
+    (MayNotify old asked.receiver asked.device asked.arcs.now) said said_new answer
+
+abbrev pub GateCounter : ℕ → GateSaid → GateSaid → GateHeld → GateHeld → ℤ → Type 0
+GateCounter n said said_new old new answer = (new ≡ old)
+    × Telling (λ (s : GateSaid) value. record s { value = value }) (CountsOf old n) said said_new answer
+
+abbrev pub GateCount : ℕ → GateSaid → GateSaid → GateHeld → GateHeld → ℤ → Type 0
+GateCount n said said_new old new answer = (new ≡ old)
+    × MatchOption (counter_of n) ((answer ≡ fault_code BadArgument) × (said_new ≡ said))
+    (λ counter. (answer ≡ pos 0) × (said_new ≡ record said { value = count_at old.gate.agent.counts counter }))
+
+-- ---- all of them
+
+-- the call of a number
+abbrev pub gate_call_of : ℕ → Option GateCall
+gate_call_of n =
+    if n == 0 then Some calls.TakeClient else if n == 1 then Some calls.TakeDevice else
+    if n == 2 then Some calls.Next else if n == 3 then Some calls.Due else if n == 4 then Some calls.Info else
+    if n == 5 then Some calls.MayNotify else if n == 6 then Some calls.Counter else if n == 7 then Some calls.Count else
+    None
+
+abbrev pub GateDoes : GateCall → GateAsked → GateSaid → GateSaid → GateHeld → GateHeld → ℤ → Type 0
+GateDoes calls.TakeClient asked said said_new old new answer = TakesFromClient asked said said_new old new answer
+GateDoes calls.TakeDevice asked said said_new old new answer = TakesFromDevice asked said said_new old new answer
+GateDoes calls.Next asked said said_new old new answer = SendsDue asked said said_new old new answer
+GateDoes calls.Due asked said said_new old new answer = TellsDue said said_new old new answer
+GateDoes calls.Info asked said said_new old new answer = TellsGateInfo said said_new old new answer
+GateDoes calls.MayNotify asked said said_new old new answer = TellsMayNotify asked said said_new old new answer
+GateDoes calls.Counter asked said said_new old new answer = GateCounter asked.counter said said_new old new answer
+GateDoes calls.Count asked said said_new old new answer = GateCount asked.counter said said_new old new answer
+
+-- What is asked is done, and told; where no call has the number nothing changes.
+abbrev pub GateCalled : GateAsked → GateSaid → GateSaid → GateHeld → GateHeld → ℤ → Type 0
+GateCalled asked said said_new old new answer =
+    MatchOption (gate_call_of asked.call) ((answer ≡ fault_code BadArgument) × (said_new ≡ said) × (new ≡ old))
+    (λ call. GateDoes call asked said said_new old new answer)
+
+-- ---- what is copied
+
+-- 0 the datagram that is to be sent, 1 its client, 2 the context of a request, 3 the setting of this number
+abbrev pub gate_copied_of : ℕ → ℕ → Option GateCopied
+gate_copied_of what which = if what == 0 then Some Message else if what == 1 then Some Client else
+    if what == 2 then Some Context else if what == 3 then option_map Setting (setting_of which) else None
+
+-- of the request of the number, or at the position
+abbrev pub CopiesOfGate : GateCopied → ℕ → GateHeld → List ℕ → List ℕ → ℕ → ℕ → Result ⊤ CallFault → Type 0
+CopiesOfGate Message number held = CopiesMessage held.message
+CopiesOfGate Client number held = CopiesMessage held.client
+CopiesOfGate Context number held = ReadsContext held number
+CopiesOfGate (Setting setting) number held = ReadsSetting held setting number
+
+abbrev pub GateCopies : ℕ → ℕ → ℕ → List ℕ → List ℕ → ℕ → ℕ → GateHeld → GateHeld → ℤ → Type 0
+GateCopies what which number out out_new written written_new old new answer = (new ≡ old)
+    × MatchOption (gate_copied_of what which)
     ((answer ≡ fault_code BadArgument) × CopiesNothing out out_new written written_new)
-    (λ setting. Done (λ told. ReadsSetting old setting position out out_new written written_new told) answer)
-
-abbrev pub TellsMayNotify : ℕ → ℕ → List ℕ → GateHeld → GateHeld → ℤ → Type 0
-TellsMayNotify receiver device arcs old new answer = (new ≡ old)
-    × ((told : Result Access CallFault) × (answer ≡ access_code told) × MayNotify old receiver device arcs told)
-
--- ten numbers are in the front of the buffer, or it is too short
-abbrev pub TellsNumbersOf : List ℕ → List ℕ → GateHeld → GateHeld → ℤ → Type 0
-TellsNumbersOf out out_new old new answer = (new ≡ old)
-    × (((answer ≡ pos 0) × (10 ≤ length out) × (out_new ≡ numbers_of old ++ drop 10 out))
-    ⊎ ((answer ≡ fault_code ShortBuffer) × (length out < 10) × (out_new ≡ out)))
-
-abbrev pub GateCounter : ℕ → GateHeld → GateHeld → ℤ → Type 0
-GateCounter n old new answer = (new ≡ old)
-    × ((told : Result ℕ CallFault) × (answer ≡ value_code told) × CountsOf old n told)
-
-abbrev pub GateCount : ℕ → GateHeld → GateHeld → ℤ → Type 0
-GateCount n old new answer = (new ≡ old)
-    × MatchOption (counter_of n) (answer ≡ fault_code BadArgument)
-    (λ counter. answer ≡ pos (count_at old.gate.agent.counts counter))
+    (λ it. Done (λ told. CopiesOfGate it number old out out_new written written_new told) answer)
 
 -- ---- without a handle
 

@@ -1,24 +1,138 @@
 //! What the calls on an agent do, without pointers.
+//!
+//! A call with much on the stack keeps a frame of its own (`inline(never)`): in one frame with all others it would be
+//! deeper than what lib/src wipes behind it.
 
-ghost use Rattle.snmp_c.specs.Calls.{ClearsAgent, Takes, Allows, May, Counter, RespondsTo, Notifies, TellsPart};
-ghost use Rattle.snmp_c.specs.Calls.{TellsMessage, TellsNumbers, WritesNextName, Reconfigured};
+ghost use Rattle.std.specs.Prelude.{◌≡◌};
+ghost use Rattle.snmp_c.specs.AgentCalls.{AgentCalled, AgentDoes, AgentCopies, ClearsAgent, WritesNextName};
+ghost use Rattle.snmp_c.specs.AgentCalls.{Reconfigured, Takes, TellsInfo, Allows, May, Notifies};
 
-use snmp_handles::{
-    AgentHandle, CallFault, NoticeTo, Part, access_code_of, code_of, value_code_of,
-};
+use crate::accepted::Accepted;
+use crate::agent_asked::{AgentAsked, AgentCall, AgentSaid};
+use crate::copied::Copied;
+use crate::counters::{count, counter, silent_drop};
+use crate::responses::{fits, max_size, refuse, respond, respond_front, respond_within, unhandled};
+use snmp_handles::{AgentHandle, CallFault, NoticeTo, code_of};
+
+/// Does what is asked by the call of its number.
+pub(crate) fn call(handle: &mut AgentHandle, asked: &AgentAsked<'_>, said: &mut AgentSaid) -> i32
+    ensures { AgentCalled asked.now said.old said.new handle.old handle.new result }
+{
+    match AgentCall::of(asked.call) {
+        Some(call) => done(handle, call, asked, said),
+        None => CallFault::BadArgument.code(),
+    }
+}
+
+/// Does what is asked by this call.
+fn done(
+    handle: &mut AgentHandle,
+    call: AgentCall,
+    asked: &AgentAsked<'_>,
+    said: &mut AgentSaid,
+) -> i32
+    ensures { AgentDoes call asked.now said.old said.new handle.old handle.new result }
+{
+    match call {
+        AgentCall::Reconfigure => reconfigure(handle, asked.octets),
+        AgentCall::Take => take(handle, asked.moment, asked.octets),
+        AgentCall::Info => info(handle, said),
+        AgentCall::MaxSize => max_size(handle, said),
+        AgentCall::Allows => allows(handle, asked.view, asked.arcs, said),
+        AgentCall::May => may(handle, asked, said),
+        AgentCall::Unhandled => unhandled(handle, said),
+        AgentCall::Respond => respond(handle, asked),
+        AgentCall::RespondWithin => respond_within(handle, asked),
+        AgentCall::RespondFront => respond_front(handle, asked, said),
+        AgentCall::Fits => fits(handle, asked, said),
+        AgentCall::Refuse => refuse(handle, asked.moment, asked.why, asked.salt),
+        AgentCall::SilentDrop => silent_drop(handle),
+        AgentCall::Notify => notify(handle, asked),
+        AgentCall::Counter => counter(handle, asked.counter, said),
+        AgentCall::Count => count(handle, asked.counter, said),
+    }
+}
+
+/// Has the users and the tables of another configuration.
+#[inline(never)]
+fn reconfigure(handle: &mut AgentHandle, config: &[u8]) -> i32
+    ensures { Reconfigured config.now handle.old handle.new result }
+{
+    code_of(handle.reconfigure(config))
+}
 
 /// Takes a datagram.
-pub(crate) fn take(handle: &mut AgentHandle, now: u64, datagram: &[u8]) -> i32
+#[inline(never)]
+fn take(handle: &mut AgentHandle, now: u64, datagram: &[u8]) -> i32
     ensures { Takes now datagram.now handle.old handle.new result }
 {
     code_of(handle.take(now, datagram))
 }
 
-/// Whether the sender of what is kept may see the variable.
-pub(crate) fn allows(handle: &mut AgentHandle, view: u32, arcs: &[u32]) -> i32
-    ensures { Allows view arcs.now handle.old handle.new result }
+/// Tells what was accepted.
+fn info(handle: &mut AgentHandle, said: &mut AgentSaid) -> i32
+    ensures same { handle.new ≡ handle.old }
+    ensures told { TellsInfo handle.old.last said.old said.new result }
 {
-    access_code_of(handle.allows(view, arcs))
+    match handle.numbers() {
+        Some(numbers) => {
+            said.accepted = Accepted::of(&numbers);
+            0
+        }
+        None => CallFault::NothingTaken.code(),
+    }
+}
+
+/// Tells whether the sender of what is kept may see the variable.
+#[inline(never)]
+fn allows(handle: &mut AgentHandle, view: u32, arcs: &[u32], said: &mut AgentSaid) -> i32
+    ensures { Allows view arcs.now said.old said.new handle.old handle.new result }
+{
+    match handle.allows(view, arcs) {
+        Ok(access) => {
+            said.access = u32::from(access.number());
+            0
+        }
+        Err(fault) => fault.code(),
+    }
+}
+
+/// Tells whether a user may see the variable.
+#[inline(never)]
+fn may(handle: &mut AgentHandle, asked: &AgentAsked<'_>, said: &mut AgentSaid) -> i32
+    ensures { May asked.now said.old said.new handle.old handle.new result }
+{
+    let AgentAsked {
+        user,
+        level,
+        context_name,
+        view,
+        arcs,
+        ..
+    } = *asked;
+    match handle.may(user, level, context_name, view, arcs) {
+        Ok(access) => {
+            said.access = u32::from(access.number());
+            0
+        }
+        Err(fault) => fault.code(),
+    }
+}
+
+/// Writes a notification.
+#[inline(never)]
+fn notify(handle: &mut AgentHandle, asked: &AgentAsked<'_>) -> i32
+    ensures { Notifies asked.now handle.old handle.new result }
+{
+    let to = NoticeTo {
+        id: asked.message_id,
+        user: asked.user,
+        level: asked.level,
+        request_id: asked.request_id,
+        context_engine: asked.context_engine,
+        context_name: asked.context_name,
+    };
+    code_of(handle.notify(asked.moment, &to, asked.octets, asked.salt))
 }
 
 /// Writes the next name that the sender of what is kept may see.
@@ -35,118 +149,24 @@ pub(crate) fn next(
     code_of(handle.next(view, from, out, written))
 }
 
-/// Whether a user may see the variable.
-pub(crate) fn may(
+/// Copies what has these numbers.
+pub(crate) fn copy(
     handle: &mut AgentHandle,
-    user: &[u8],
-    level: u32,
-    context: &[u8],
-    view: u32,
-    arcs: &[u32],
-) -> i32
-    ensures { May user.now level context.now view arcs.now handle.old handle.new result }
-{
-    access_code_of(handle.may(user, level, context, view, arcs))
-}
-
-/// The value of a counter.
-pub(crate) fn counter(handle: &mut AgentHandle, n: u32) -> i64
-    ensures { Counter n handle.old handle.new result }
-{
-    value_code_of(handle.counter(n))
-}
-
-/// Writes the Response to what is kept.
-pub(crate) fn respond(
-    handle: &mut AgentHandle,
-    now: u64,
-    status: u32,
-    index: u32,
-    list: &[u8],
-    salt: u64,
-) -> i32
-    ensures { RespondsTo now status index list.now salt handle.old handle.new result }
-{
-    code_of(handle.respond(now, status, index, list, salt))
-}
-
-/// Writes a notification.
-pub(crate) fn notify(
-    handle: &mut AgentHandle,
-    now: u64,
-    id: u32,
-    user: &[u8],
-    level: u32,
-    request_id: u32,
-    context_engine: &[u8],
-    context_name: &[u8],
-    list: &[u8],
-    salt: u64,
-) -> i32
-    ensures { Notifies now
-        (record {
-          id = id;
-          user = user.now;
-          level = level;
-          request_id = request_id;
-          context_engine = context_engine.now;
-          context_name = context_name.now;
-        }) list.now salt handle.old
-        handle.new result }
-{
-    let to = NoticeTo {
-        id,
-        user,
-        level,
-        request_id,
-        context_engine,
-        context_name,
-    };
-    code_of(handle.notify(now, &to, list, salt))
-}
-
-/// Copies the part of this number of what is kept.
-pub(crate) fn part(
-    handle: &mut AgentHandle,
-    number: u32,
+    what: u32,
+    part: u32,
     out: &mut [u8],
     written: &mut usize,
 ) -> i32
-    ensures { TellsPart number out.old out.new written.old
+    ensures { AgentCopies what part out.old out.new written.old
         written.new handle.old handle.new result }
 {
-    match Part::of(number) {
-        Some(part) => code_of(handle.part(part, out, written)),
-        None => CallFault::BadArgument.code(),
-    }
-}
-
-/// Copies the message that is to be sent.
-pub(crate) fn message(handle: &mut AgentHandle, out: &mut [u8], written: &mut usize) -> i32
-    ensures { TellsMessage out.old out.new written.old written.new handle.old handle.new result }
-{
-    code_of(handle.message(out, written))
-}
-
-/// Copies the numbers of what is kept.
-pub(crate) fn numbers(handle: &mut AgentHandle, out: &mut [i32]) -> i32
-    ensures { TellsNumbers out.old out.new handle.old handle.new result }
-{
-    let Some(numbers) = handle.numbers() else {
-        return CallFault::NothingTaken.code();
+    let Some(copied) = Copied::of(what, part) else {
+        return CallFault::BadArgument.code();
     };
-    if out.len() < numbers.len() {
-        return CallFault::ShortBuffer.code();
+    match copied {
+        Copied::OfKept(part) => code_of(handle.part(part, out, written)),
+        Copied::Message => code_of(handle.message(out, written)),
     }
-    out[..numbers.len()].copy_from_slice(&numbers);
-    0
-}
-
-/// Has the users and the tables of another configuration.
-pub(crate) fn reconfigure(handle: &mut AgentHandle, config: &[u8]) -> i32
-    ensures { Reconfigured config.now handle.old handle.new result }
-{
-    code_of(handle.reconfigure(config))
 }
 
 /// Gives back all memory but the block of the handle.

@@ -87,24 +87,42 @@ fn heard_of(kind: u32, counter: u32, authentic: u32) -> Option<Heard>
     }
 }
 
-/// The number of what is to be done: 0 to 2 this message is to be sent, 3 wait, 4 answered, 10 and more refused.
-fn step_code(step: NextStep) -> i32
-    ensures { result ≡ spec.step_code step }
+/// What is kept of a request of a device between the calls, and what is to be done next.
+#[repr(C)]
+#[derive(Clone, Copy)]
+pub struct DeviceSaid {
+    /// What was sent last: 0 the discovery, 1 the request for the time, 2 the request, or 3 where nothing is sent
+    /// any more.
+    pub sent: u32,
+    /// Whether the request was sent again. It is 0 at first.
+    pub again: u32,
+    /// 0 to 2 this message is to be sent, 3 wait on, 4 the request is answered, 5 the engine refused it.
+    pub step: u32,
+    /// The counter that the engine reported where it refused the request.
+    pub counter: u32,
+}
+
+/// Tells what is to be done.
+fn tell_step(step: NextStep, said: &mut DeviceSaid)
+    ensures { said.new ≡ spec.tells_step said.old step }
 {
     match step {
-        NextStep::Send(message) => i32::from(message_number(message)),
-        NextStep::Wait => 3,
-        NextStep::Answered => 4,
-        NextStep::Refused(counter) => 10 + i32::from(counter),
+        NextStep::Send(message) => said.step = u32::from(message_number(message)),
+        NextStep::Wait => said.step = 3,
+        NextStep::Answered => said.step = 4,
+        NextStep::Refused(counter) => {
+            said.step = 5;
+            said.counter = u32::from(counter);
+        }
     }
 }
 
-/// What is to be sent first for a request of this level, of a device of which is known 0 nothing, 1 its engine ID, or 2
-/// its boots and time too: 0 the discovery, 1 the request for the time, which is unsealed, or 2 the request. It answers
-/// -1 where the level isn't 1 to 3, or 0 to 2 isn't known.
+/// What is to be sent first for a request of this level, of a device of which is known 0 nothing, 1 its engine ID,
+/// or 2 its boots and time too: 0 the discovery, 1 the request for the time, which is unsealed, or 2 the request.
+/// It answers 0; or -1 where the level isn't 1 to 3, or 0 to 2 isn't known, and nothing is written then.
 #[unsafe(no_mangle)]
-pub extern "C" fn proved_device_begin(level: u32, known: u32) -> i32
-    ensures { BeginsDevice level known result }
+pub extern "C" fn proved_device_begin(level: u32, known: u32, sent: &mut u32) -> i32
+    ensures { BeginsDevice level known sent.old sent.new result }
 {
     let Some(level) = level_of(level) else {
         return CallFault::BadArgument.code();
@@ -112,18 +130,13 @@ pub extern "C" fn proved_device_begin(level: u32, known: u32) -> i32
     let Some(known) = known_of(known) else {
         return CallFault::BadArgument.code();
     };
-    match DeviceRequest::new(level, known).sent {
-        Some(message) => i32::from(message_number(message)),
-        None => 3,
-    }
+    *sent = u32::from(sent_number(DeviceRequest::new(level, known).sent));
+    0
 }
 
-/// What is to be done once an answer came to the message that was sent last: 0 to 2 this is to be sent, 3 wait on, 4
-/// the request is answered, 10 and more the engine refused it and reported the counter of the rest. The answer is of
-/// the kind 0, a Response, or 2, a Report of this counter, which is authentic or not. Whether the manager holds boots
-/// and time of the engine is `holds`. What was sent last, and whether the request was sent again, is kept in `sent` and
-/// `again` between the calls; `again` is 0 at first. It answers -1, and writes nothing, where a number is out of its
-/// range.
+/// What is to be done once an answer came to the message that was sent last. The answer is of the kind 0, a
+/// Response, or 2, a Report of this counter, which is authentic or not. Whether the manager holds boots and time of
+/// the engine is `holds`. It answers 0; or -1, and writes nothing, where a number is out of its range.
 #[unsafe(no_mangle)]
 pub extern "C" fn proved_device_hear(
     level: u32,
@@ -131,16 +144,14 @@ pub extern "C" fn proved_device_hear(
     counter: u32,
     authentic: u32,
     holds: u32,
-    sent: &mut u32,
-    again: &mut u32,
+    said: &mut DeviceSaid,
 ) -> i32
-    ensures { HearsDevice level kind counter authentic
-        holds sent.old sent.new again.old again.new result }
+    ensures { HearsDevice level kind counter authentic holds said.old said.new result }
 {
     let Some(level) = level_of(level) else {
         return CallFault::BadArgument.code();
     };
-    let Some(message) = sent_of(*sent) else {
+    let Some(message) = sent_of(said.sent) else {
         return CallFault::BadArgument.code();
     };
     let Some(heard) = heard_of(kind, counter, authentic) else {
@@ -149,11 +160,12 @@ pub extern "C" fn proved_device_hear(
     let mut request = DeviceRequest {
         level,
         sent: message,
-        again: is_set(*again),
+        again: is_set(said.again),
         hint: None,
     };
     let step = request.hear(heard, is_set(holds));
-    *sent = u32::from(sent_number(request.sent));
-    *again = u32::from(request.again);
-    step_code(step)
+    said.sent = u32::from(sent_number(request.sent));
+    said.again = u32::from(request.again);
+    tell_step(step, said);
+    0
 }

@@ -1,67 +1,123 @@
 //! What the calls on a forwarder of notifications do, without pointers.
+//!
+//! A call with much on the stack keeps a frame of its own (`inline(never)`), as in `agent_calls`.
 
-ghost use Rattle.snmp_c.specs.ForwardCalls.{ClearsForwarder, SendsNotification, TakesReceiverOf, TakesTrapOf};
-ghost use Rattle.snmp_c.specs.ForwardCalls.{TellsForwardDue, TellsForwardNumbers, TellsNotification};
+ghost use Rattle.std.specs.Prelude.{◌≡◌, MatchResult};
+ghost use Rattle.snmp_handles.specs.Faults.{code};
+ghost use Rattle.snmp_c.specs.ForwardCalls.{ClearsForwarder, ForwardCalled, ForwardCopies, ForwardDoes};
+ghost use Rattle.snmp_c.specs.ForwardCalls.{SendsNotification, TakesReceiverOf, TakesTrapOf};
+ghost use Rattle.snmp_c.specs.ForwardCalls.{TellsForwardDue, TellsForwardInfo, tells_forwarded};
 
-use gate_handles::{ForwardHandle, forward_code_of};
+use crate::forward_asked::{ForwardAsked, ForwardCall, ForwardSaid};
+use crate::gate_calls::why_number;
+use gate_handles::{ForwardEvent, ForwardHandle};
 use snmp_handles::{CallFault, code_of};
 
-/// Takes a datagram from a device.
-pub(crate) fn take_trap(handle: &mut ForwardHandle, device: u64, datagram: &[u8]) -> i32
-    ensures { TakesTrapOf device datagram.now handle.old handle.new result }
+/// Does what is asked by the call of its number.
+pub(crate) fn call(
+    handle: &mut ForwardHandle,
+    asked: &ForwardAsked<'_>,
+    said: &mut ForwardSaid,
+) -> i32
+    ensures { ForwardCalled asked.now said.old said.new handle.old handle.new result }
 {
-    forward_code_of(handle.take_trap(device as usize, datagram))
+    match ForwardCall::of(asked.call) {
+        Some(call) => done(handle, call, asked, said),
+        None => CallFault::BadArgument.code(),
+    }
+}
+
+/// Does what is asked by this call.
+fn done(
+    handle: &mut ForwardHandle,
+    call: ForwardCall,
+    asked: &ForwardAsked<'_>,
+    said: &mut ForwardSaid,
+) -> i32
+    ensures { ForwardDoes call asked.now said.old said.new handle.old handle.new result }
+{
+    match call {
+        ForwardCall::TakeTrap => take_trap(handle, asked, said),
+        ForwardCall::TakeReceiver => take_receiver(handle, asked, said),
+        ForwardCall::Next => next(handle, asked, said),
+        ForwardCall::Due => due(handle, said),
+        ForwardCall::Info => info(handle, said),
+    }
+}
+
+/// Tells an event, and answers 0; or answers the fault's number, and tells nothing.
+fn tell(event: Result<ForwardEvent, CallFault>, said: &mut ForwardSaid) -> i32
+    ensures answer { result ≡ code event }
+    ensures told { MatchResult event (λ event. said.new ≡ tells_forwarded said.old event)
+        (λ fault. said.new ≡ said.old) }
+{
+    match event {
+        Ok(event) => {
+            said.event = event.number();
+            said.why = why_number(event.why());
+            0
+        }
+        Err(fault) => fault.code(),
+    }
+}
+
+/// Takes a datagram from a device.
+#[inline(never)]
+fn take_trap(handle: &mut ForwardHandle, asked: &ForwardAsked<'_>, said: &mut ForwardSaid) -> i32
+    ensures { TakesTrapOf asked.now said.old said.new handle.old handle.new result }
+{
+    tell(handle.take_trap(asked.device, asked.datagram), said)
 }
 
 /// Takes a datagram from a receiver.
-pub(crate) fn take_receiver(
+#[inline(never)]
+fn take_receiver(
     handle: &mut ForwardHandle,
-    now: u64,
-    receiver: u64,
-    datagram: &[u8],
+    asked: &ForwardAsked<'_>,
+    said: &mut ForwardSaid,
 ) -> i32
-    ensures { TakesReceiverOf now receiver datagram.now handle.old handle.new result }
+    ensures { TakesReceiverOf asked.now said.old said.new handle.old handle.new result }
 {
-    forward_code_of(handle.take_receiver(now, receiver as usize, datagram))
+    tell(
+        handle.take_receiver(asked.moment, asked.receiver, asked.datagram),
+        said,
+    )
 }
 
 /// Does the first thing that is to be done.
-pub(crate) fn next(handle: &mut ForwardHandle, now: u64, salt: u64, ask_id: u32) -> i32
-    ensures { SendsNotification now salt ask_id handle.old handle.new result }
+#[inline(never)]
+fn next(handle: &mut ForwardHandle, asked: &ForwardAsked<'_>, said: &mut ForwardSaid) -> i32
+    ensures { SendsNotification asked.now said.old said.new handle.old handle.new result }
 {
-    forward_code_of(handle.next(now, salt, ask_id))
+    tell(handle.next(asked.moment, asked.salt, asked.ask_id), said)
 }
 
-/// Writes the moment from which on something is due.
-pub(crate) fn due(handle: &mut ForwardHandle, at: &mut u64) -> i32
-    ensures { TellsForwardDue at.old at.new handle.old handle.new result }
+/// Tells the moment from which on something is due.
+fn due(handle: &mut ForwardHandle, said: &mut ForwardSaid) -> i32
+    ensures { TellsForwardDue said.old said.new handle.old handle.new result }
 {
     match handle.due() {
         Some(due) => {
-            *at = due;
+            said.due = due;
             0
         }
         None => CallFault::NothingTaken.code(),
     }
 }
 
-/// Copies what is to be sent.
-pub(crate) fn message(handle: &mut ForwardHandle, out: &mut [u8], written: &mut usize) -> i32
-    ensures { TellsNotification out.old out.new written.old written.new handle.old handle.new result }
+/// Tells what the last call was about.
+fn info(handle: &mut ForwardHandle, said: &mut ForwardSaid) -> i32
+    ensures { TellsForwardInfo said.old said.new handle.old handle.new result }
 {
-    code_of(handle.message(out, written))
+    said.info = handle.info();
+    0
 }
 
-/// Copies the numbers of the last call.
-pub(crate) fn numbers(handle: &mut ForwardHandle, out: &mut [u64]) -> i32
-    ensures { TellsForwardNumbers out.old out.new handle.old handle.new result }
+/// Copies what is to be sent.
+pub(crate) fn copy(handle: &mut ForwardHandle, out: &mut [u8], written: &mut usize) -> i32
+    ensures { ForwardCopies out.old out.new written.old written.new handle.old handle.new result }
 {
-    let numbers = handle.numbers();
-    if out.len() < numbers.len() {
-        return CallFault::ShortBuffer.code();
-    }
-    out[..numbers.len()].copy_from_slice(&numbers);
-    0
+    code_of(handle.message(out, written))
 }
 
 /// Gives back all memory but the block of the handle.

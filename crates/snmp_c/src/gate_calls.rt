@@ -1,121 +1,181 @@
 //! What the calls on a gateway do, without pointers.
+//!
+//! A call with much on the stack keeps a frame of its own (`inline(never)`), as in `agent_calls`.
 
-ghost use Rattle.snmp_c.specs.GateCalls.{ClearsGate, TakesFromClient, TakesFromDevice, SendsDue, TellsDue};
-ghost use Rattle.snmp_c.specs.GateCalls.{TellsDatagram, TellsClientOf, TellsSetting, TellsNumbersOf, GateCounter};
-ghost use Rattle.snmp_c.specs.GateCalls.{GateCount, TellsContextOf, TellsMayNotify};
+ghost use Rattle.std.specs.Prelude.{◌≡◌, MatchResult};
+ghost use Rattle.snmp_handles.specs.Faults.{code};
+ghost use Rattle.snmp_c.specs.GateCalls.{ClearsGate, GateCalled, GateCopies, GateDoes, TakesFromClient};
+ghost use Rattle.snmp_c.specs.GateCalls.{TakesFromDevice, SendsDue, TellsDue, TellsGateInfo, TellsMayNotify};
+ghost use Rattle.snmp_c.specs.GateCalls.{GateCounter, GateCount, tells_event, why_number};
 
-use gate_handles::{GateHandle, GateText, event_code_of};
-use snmp_handles::{CallFault, access_code_of, code_of, counter_of, value_code_of};
+use crate::gate_asked::{GateAsked, GateCall, GateSaid};
+use crate::gate_copied::GateCopied;
+use gate_handles::{GateEvent, GateHandle};
+use snmp_handles::{CallFault, code_of, counter_of};
+use snmp_msg::Refusal;
+
+/// Does what is asked by the call of its number.
+pub(crate) fn call(handle: &mut GateHandle, asked: &GateAsked<'_>, said: &mut GateSaid) -> i32
+    ensures { GateCalled asked.now said.old said.new handle.old handle.new result }
+{
+    match GateCall::of(asked.call) {
+        Some(call) => done(handle, call, asked, said),
+        None => CallFault::BadArgument.code(),
+    }
+}
+
+/// Does what is asked by this call.
+fn done(handle: &mut GateHandle, call: GateCall, asked: &GateAsked<'_>, said: &mut GateSaid) -> i32
+    ensures { GateDoes call asked.now said.old said.new handle.old handle.new result }
+{
+    match call {
+        GateCall::TakeClient => take_client(handle, asked, said),
+        GateCall::TakeDevice => take_device(handle, asked, said),
+        GateCall::Next => next(handle, asked, said),
+        GateCall::Due => due(handle, said),
+        GateCall::Info => info(handle, said),
+        GateCall::MayNotify => may_notify(handle, asked, said),
+        GateCall::Counter => counter(handle, asked.counter, said),
+        GateCall::Count => count(handle, asked.counter, said),
+    }
+}
+
+/// The number of a refusal, or 0 where there is none.
+pub(crate) fn why_number(why: Option<Refusal>) -> u32
+    ensures { result ≡ why_number why }
+{
+    match why {
+        Some(refusal) => u32::from(refusal.number()),
+        None => 0,
+    }
+}
+
+/// Tells an event, and answers 0; or answers the fault's number, and tells nothing.
+fn tell(event: Result<GateEvent, CallFault>, said: &mut GateSaid) -> i32
+    ensures answer { result ≡ code event }
+    ensures told { MatchResult event (λ event. said.new ≡ tells_event said.old event) (λ fault. said.new ≡ said.old) }
+{
+    match event {
+        Ok(event) => {
+            said.event = event.number();
+            said.why = why_number(event.why());
+            0
+        }
+        Err(fault) => fault.code(),
+    }
+}
 
 /// Takes a datagram from a client.
-pub(crate) fn take_client(handle: &mut GateHandle, now: u64, client: &[u8], datagram: &[u8]) -> i32
-    ensures { TakesFromClient now client.now datagram.now handle.old handle.new result }
+#[inline(never)]
+fn take_client(handle: &mut GateHandle, asked: &GateAsked<'_>, said: &mut GateSaid) -> i32
+    ensures { TakesFromClient asked.now said.old said.new handle.old handle.new result }
 {
-    event_code_of(handle.take_client(now, client, datagram))
+    tell(
+        handle.take_client(asked.moment, asked.client, asked.datagram),
+        said,
+    )
 }
 
 /// Takes a datagram from a device.
-pub(crate) fn take_device(handle: &mut GateHandle, now: u64, device: u64, datagram: &[u8]) -> i32
-    ensures { TakesFromDevice now device datagram.now handle.old handle.new result }
+#[inline(never)]
+fn take_device(handle: &mut GateHandle, asked: &GateAsked<'_>, said: &mut GateSaid) -> i32
+    ensures { TakesFromDevice asked.now said.old said.new handle.old handle.new result }
 {
-    event_code_of(handle.take_device(now, device as usize, datagram))
+    tell(
+        handle.take_device(asked.moment, asked.device, asked.datagram),
+        said,
+    )
 }
 
 /// Does the first thing that is due.
-pub(crate) fn next(handle: &mut GateHandle, now: u64, salt: u64, ask_id: u32) -> i32
-    ensures { SendsDue now salt ask_id handle.old handle.new result }
+#[inline(never)]
+fn next(handle: &mut GateHandle, asked: &GateAsked<'_>, said: &mut GateSaid) -> i32
+    ensures { SendsDue asked.now said.old said.new handle.old handle.new result }
 {
-    event_code_of(handle.next(now, salt, ask_id))
+    tell(handle.next(asked.moment, asked.salt, asked.ask_id), said)
 }
 
-/// Writes the moment from which on something is due.
-pub(crate) fn due(handle: &mut GateHandle, at: &mut u64) -> i32
-    ensures { TellsDue at.old at.new handle.old handle.new result }
+/// Tells the moment from which on something is due.
+fn due(handle: &mut GateHandle, said: &mut GateSaid) -> i32
+    ensures { TellsDue said.old said.new handle.old handle.new result }
 {
     match handle.due() {
         Some(due) => {
-            *at = due;
+            said.due = due;
             0
         }
         None => CallFault::NothingTaken.code(),
     }
 }
 
-/// Copies what is to be sent.
-pub(crate) fn message(handle: &mut GateHandle, out: &mut [u8], written: &mut usize) -> i32
-    ensures { TellsDatagram out.old out.new written.old written.new handle.old handle.new result }
+/// Tells what the last call was about.
+fn info(handle: &mut GateHandle, said: &mut GateSaid) -> i32
+    ensures { TellsGateInfo said.old said.new handle.old handle.new result }
 {
-    code_of(handle.message(out, written))
+    said.info = handle.info();
+    0
 }
 
-/// Copies the address of the client to whom it goes.
-pub(crate) fn client(handle: &mut GateHandle, out: &mut [u8], written: &mut usize) -> i32
-    ensures { TellsClientOf out.old out.new written.old written.new handle.old handle.new result }
+/// Tells whether a receiver may be notified of a variable of a device.
+#[inline(never)]
+fn may_notify(handle: &mut GateHandle, asked: &GateAsked<'_>, said: &mut GateSaid) -> i32
+    ensures { TellsMayNotify asked.now said.old said.new handle.old handle.new result }
 {
-    code_of(handle.client(out, written))
+    match handle.may_notify(asked.receiver, asked.device, asked.arcs) {
+        Ok(access) => {
+            said.access = u32::from(access.number());
+            0
+        }
+        Err(fault) => fault.code(),
+    }
 }
 
-/// Copies the context of the request of this number.
-pub(crate) fn context(
-    handle: &mut GateHandle,
-    request: u64,
-    out: &mut [u8],
-    written: &mut usize,
-) -> i32
-    ensures { TellsContextOf request out.old out.new written.old written.new handle.old handle.new result }
+/// Tells the value of a counter of usmStats.
+fn counter(handle: &mut GateHandle, n: u32, said: &mut GateSaid) -> i32
+    ensures { GateCounter n said.old said.new handle.old handle.new result }
 {
-    code_of(handle.context(request, out, written))
+    match handle.counter(n) {
+        Ok(value) => {
+            said.value = value;
+            0
+        }
+        Err(fault) => fault.code(),
+    }
 }
 
-/// Copies what the configuration says by this number.
-pub(crate) fn setting(
-    handle: &mut GateHandle,
-    which: u32,
-    position: u64,
-    out: &mut [u8],
-    written: &mut usize,
-) -> i32
-    ensures { TellsSetting which position out.old out.new written.old written.new handle.old handle.new result }
+/// Tells the value of a counter besides usmStats.
+fn count(handle: &mut GateHandle, n: u32, said: &mut GateSaid) -> i32
+    ensures { GateCount n said.old said.new handle.old handle.new result }
 {
-    match GateText::of(which) {
-        Some(setting) => code_of(handle.setting(setting, position as usize, out, written)),
+    match counter_of(n) {
+        Some(counter) => {
+            said.value = handle.count(counter);
+            0
+        }
         None => CallFault::BadArgument.code(),
     }
 }
 
-/// Whether a receiver may be notified of a variable of a device.
-pub(crate) fn may_notify(handle: &mut GateHandle, receiver: u64, device: u64, arcs: &[u32]) -> i32
-    ensures { TellsMayNotify receiver device arcs.now handle.old handle.new result }
+/// Copies what has these numbers: of the request of the number, or at the position.
+pub(crate) fn copy(
+    handle: &mut GateHandle,
+    what: u32,
+    setting: u32,
+    number: u64,
+    out: &mut [u8],
+    written: &mut usize,
+) -> i32
+    ensures { GateCopies what setting number out.old out.new written.old written.new
+        handle.old handle.new result }
 {
-    access_code_of(handle.may_notify(receiver as usize, device as usize, arcs))
-}
-
-/// Copies the numbers of the last call.
-pub(crate) fn numbers(handle: &mut GateHandle, out: &mut [u64]) -> i32
-    ensures { TellsNumbersOf out.old out.new handle.old handle.new result }
-{
-    let numbers = handle.numbers();
-    if out.len() < numbers.len() {
-        return CallFault::ShortBuffer.code();
-    }
-    out[..numbers.len()].copy_from_slice(&numbers);
-    0
-}
-
-/// The value of a counter.
-pub(crate) fn counter(handle: &mut GateHandle, n: u32) -> i64
-    ensures { GateCounter n handle.old handle.new result }
-{
-    value_code_of(handle.counter(n))
-}
-
-/// How many messages the counter of this number has counted.
-pub(crate) fn count(handle: &mut GateHandle, n: u32) -> i64
-    ensures { GateCount n handle.old handle.new result }
-{
-    match counter_of(n) {
-        Some(counter) => i64::from(handle.count(counter)),
-        None => i64::from(CallFault::BadArgument.code()),
+    let Some(copied) = GateCopied::of(what, setting) else {
+        return CallFault::BadArgument.code();
+    };
+    match copied {
+        GateCopied::Message => code_of(handle.message(out, written)),
+        GateCopied::Client => code_of(handle.client(out, written)),
+        GateCopied::Context => code_of(handle.context(number, out, written)),
+        GateCopied::Setting(it) => code_of(handle.setting(it, number as usize, out, written)),
     }
 }
 

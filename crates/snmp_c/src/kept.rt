@@ -7,12 +7,11 @@ ghost use Rattle.snmp_incoming.specs.Outcome.{Given};
 ghost use Rattle.snmp_handles.specs.contracts.agent.AgentHandle as agents;
 ghost use Rattle.snmp_handles.specs.contracts.kept.KeptHandle as kepts;
 ghost use Rattle.snmp_handles.specs.Agents.{AgentHeld};
-ghost use Rattle.snmp_c.specs.KeptCalls.{MakesKept, Keeps, Restores, AnswersKept, AnswersKeptWithin, AnswersKeptFront};
-ghost use Rattle.snmp_c.specs.KeptCalls.{TellsKeptPart, TellsKeptNumbers, KeptMaxSize, ClearsKept};
+ghost use Rattle.snmp_c.specs.KeptCalls.{MakesKept, Keeps, Restores, KeptAnswered, KeptCalled, TellsKeptPart};
+ghost use Rattle.snmp_c.specs.KeptCalls.{ClearsKept};
 
-use crate::kept_calls::{
-    clear, keep, max_size, numbers, part, respond, respond_front, respond_within, restore,
-};
+use crate::agent_asked::{AgentAsked, AgentSaid};
+use crate::kept_calls::{answer, call, clear, copy, keep, restore};
 use snmp_handles::{AgentHandle, CallFault, KeptHandle};
 use snmp_msg::Refusal;
 use std::alloc::Global;
@@ -88,18 +87,16 @@ pub unsafe extern "C" fn proved_agent_restore(agent: *mut u8, kept: *mut u8) -> 
     )
 }
 
-/// Writes the Response to the message that is kept, as `proved_agent_respond` does to the one that was accepted last,
-/// and leaves it as the agent's message to be sent. What the agent accepted last stays, and so does what is kept. Where
-/// it doesn't answer 0, nothing changes; it answers what `proved_agent_respond` does, and -2 where no message is kept.
+/// Answers the message that is kept, by a call of `AgentCall` that writes a Response, as `proved_agent_call`
+/// answers the one that was accepted last, and leaves the answer as the agent's message to be sent. What the agent
+/// accepted last stays, and so does what is kept. Where it doesn't answer 0, nothing changes; it answers what
+/// `proved_agent_call` does, -2 where no message is kept, and -1 where no such call has the number.
 #[unsafe(no_mangle)]
 pub unsafe extern "C" fn proved_kept_respond(
     agent: *mut u8,
     kept: *mut u8,
-    now: u64,
-    status: u32,
-    index: u32,
-    list: &[u8],
-    salt: u64,
+    asked: &AgentAsked<'_>,
+    said: &mut AgentSaid,
 ) -> i32
     ghost held: { AgentHeld × Option Given }
     requires* { sem 𝓛 (lies_at agents.the_row full_share agent held.0)
@@ -107,92 +104,32 @@ pub unsafe extern "C" fn proved_kept_respond(
     ensures* { ∃ₛ (λ (new : AgentHeld × Option Given).
         sem 𝓛 (lies_at agents.the_row full_share agent new.0)
         ∗ sem 𝓛 (lies_at kepts.the_row full_share kept new.1)
-        ∗ ⌜ AnswersKept now status index list.now salt held.0 held.1 new.0 new.1 result ⌝) }
+        ∗ ⌜ KeptAnswered asked.now said.old said.new held.0 held.1 new.0 new.1 result ⌝) }
 {
-    respond(
+    answer(
         &mut *(agent as *mut AgentHandle),
         &mut *(kept as *mut KeptHandle),
-        now,
-        status,
-        index,
-        list,
-        salt,
+        asked,
+        said,
     )
 }
 
-/// What `proved_kept_respond` writes where that has at most `limit` octets, and else 16 (TooLarge), as
-/// `proved_agent_respond_within` does.
+/// Tells of the message that is kept what `AgentCall` tells by the call of this number: `Info` or `MaxSize`. It answers
+/// -1 where another call has it or none, and -2 where no message is kept; then nothing is reported.
 #[unsafe(no_mangle)]
-pub unsafe extern "C" fn proved_kept_respond_within(
-    agent: *mut u8,
-    kept: *mut u8,
-    now: u64,
-    status: u32,
-    index: u32,
-    list: &[u8],
-    salt: u64,
-    limit: u32,
-) -> i32
-    ghost held: { AgentHeld × Option Given }
-    requires* { sem 𝓛 (lies_at agents.the_row full_share agent held.0)
-        ∗ sem 𝓛 (lies_at kepts.the_row full_share kept held.1) }
-    ensures* { ∃ₛ (λ (new : AgentHeld × Option Given).
-        sem 𝓛 (lies_at agents.the_row full_share agent new.0)
-        ∗ sem 𝓛 (lies_at kepts.the_row full_share kept new.1)
-        ∗ ⌜ AnswersKeptWithin now status index list.now salt limit held.0 held.1 new.0 new.1 result ⌝) }
+pub unsafe extern "C" fn proved_kept_call(at: *mut u8, number: u32, said: &mut AgentSaid) -> i32
+    ghost held: { Option Given }
+    requires* { sem 𝓛 (lies_at kepts.the_row full_share at held) }
+    ensures* { ∃ₛ (λ (new : Option Given). sem 𝓛
+        (lies_at kepts.the_row full_share at new) ∗ ⌜ KeptCalled number said.old said.new held new result ⌝) }
 {
-    respond_within(
-        &mut *(agent as *mut AgentHandle),
-        &mut *(kept as *mut KeptHandle),
-        now,
-        status,
-        index,
-        list,
-        salt,
-        limit,
-    )
+    call(&mut *(at as *mut KeptHandle), number, said)
 }
 
-/// Writes the Response to the message that is kept with as many of the bindings, from the first on, as have room within
-/// `limit` octets, and sets `count` to how many they are, as `proved_agent_respond_front` does.
+/// Copies a part of the message that is kept, by the parts' numbers of `proved_agent_copy` and in the same way. It
+/// answers -1 where no part has the number, -2 where no message is kept, and -5 where the buffer is too short.
 #[unsafe(no_mangle)]
-pub unsafe extern "C" fn proved_kept_respond_front(
-    agent: *mut u8,
-    kept: *mut u8,
-    now: u64,
-    status: u32,
-    index: u32,
-    list: &[u8],
-    salt: u64,
-    limit: u32,
-    count: &mut usize,
-) -> i32
-    ghost held: { AgentHeld × Option Given }
-    requires* { sem 𝓛 (lies_at agents.the_row full_share agent held.0)
-        ∗ sem 𝓛 (lies_at kepts.the_row full_share kept held.1) }
-    ensures* { ∃ₛ (λ (new : AgentHeld × Option Given).
-        sem 𝓛 (lies_at agents.the_row full_share agent new.0)
-        ∗ sem 𝓛 (lies_at kepts.the_row full_share kept new.1)
-        ∗ ⌜ AnswersKeptFront now status index list.now salt limit count.old count.new
-        held.0 held.1 new.0 new.1 result ⌝) }
-{
-    respond_front(
-        &mut *(agent as *mut AgentHandle),
-        &mut *(kept as *mut KeptHandle),
-        now,
-        status,
-        index,
-        list,
-        salt,
-        limit,
-        count,
-    )
-}
-
-/// Copies a part of the message that is kept, by the numbers of `proved_agent_part` and in the same way. It answers -1
-/// where no part has the number, -2 where no message is kept, and -5 where the buffer is too short.
-#[unsafe(no_mangle)]
-pub unsafe extern "C" fn proved_kept_part(
+pub unsafe extern "C" fn proved_kept_copy(
     at: *mut u8,
     number: u32,
     out: &mut [u8],
@@ -204,29 +141,5 @@ pub unsafe extern "C" fn proved_kept_part(
         (lies_at kepts.the_row full_share at new) ∗ ⌜ TellsKeptPart number out.old out.new
         written.old written.new held new result ⌝) }
 {
-    part(&mut *(at as *mut KeptHandle), number, out, written)
-}
-
-/// Writes the six numbers of the message that is kept, as `proved_agent_numbers` does. It answers -2 where no message
-/// is kept, and -5 where there is no room for six.
-#[unsafe(no_mangle)]
-pub unsafe extern "C" fn proved_kept_numbers(at: *mut u8, out: &mut [i32]) -> i32
-    ghost held: { Option Given }
-    requires* { sem 𝓛 (lies_at kepts.the_row full_share at held) }
-    ensures* { ∃ₛ (λ (new : Option Given). sem 𝓛
-        (lies_at kepts.the_row full_share at new) ∗ ⌜ TellsKeptNumbers out.old out.new held new result ⌝) }
-{
-    numbers(&mut *(at as *mut KeptHandle), out)
-}
-
-/// The sender's msgMaxSize of the message that is kept, 484 to 2147483647 octets: how long a Response to it may be (RFC
-/// 3412, section 6.3). It answers -2 where no message is kept.
-#[unsafe(no_mangle)]
-pub unsafe extern "C" fn proved_kept_max_size(at: *mut u8) -> i64
-    ghost held: { Option Given }
-    requires* { sem 𝓛 (lies_at kepts.the_row full_share at held) }
-    ensures* { ∃ₛ (λ (new : Option Given). sem 𝓛
-        (lies_at kepts.the_row full_share at new) ∗ ⌜ KeptMaxSize held new result ⌝) }
-{
-    max_size(&mut *(at as *mut KeptHandle))
+    copy(&mut *(at as *mut KeptHandle), number, out, written)
 }

@@ -1,10 +1,14 @@
 //! What the calls on a message that is kept do, without pointers.
 
-ghost use Rattle.snmp_c.specs.KeptCalls.{Keeps, Restores, AnswersKept, AnswersKeptWithin, AnswersKeptFront};
-ghost use Rattle.snmp_c.specs.KeptCalls.{TellsKeptPart, TellsKeptNumbers, KeptMaxSize, ClearsKept};
+ghost use Rattle.std.specs.Prelude.{◌≡◌};
+ghost use Rattle.snmp_c.specs.AgentCalls.{TellsInfo, TellsSize};
+ghost use Rattle.snmp_c.specs.KeptCalls.{Keeps, Restores, KeptAnswered, AnswersKept, AnswersKeptWithin};
+ghost use Rattle.snmp_c.specs.KeptCalls.{AnswersKeptFront, KeptCalled, TellsKeptPart, ClearsKept};
 
-use crate::{agent_calls, dispatch_calls};
-use snmp_handles::{AgentHandle, CallFault, KeptHandle, Part, code_of, value_code_of};
+use crate::accepted::Accepted;
+use crate::agent_asked::{AgentAsked, AgentCall, AgentSaid};
+use crate::responses;
+use snmp_handles::{AgentHandle, CallFault, KeptHandle, Part, code_of};
 
 /// Moves what the agent accepted last out of its handle.
 pub(crate) fn keep(agent: &mut AgentHandle, kept: &mut KeptHandle) -> i32
@@ -21,92 +25,102 @@ pub(crate) fn restore(agent: &mut AgentHandle, kept: &mut KeptHandle) -> i32
 }
 
 /// Writes the Response to what is kept.
-pub(crate) fn respond(
-    agent: &mut AgentHandle,
-    kept: &mut KeptHandle,
-    now: u64,
-    status: u32,
-    index: u32,
-    list: &[u8],
-    salt: u64,
-) -> i32
-    ensures { AnswersKept now status index list.now salt agent.old kept.old agent.new kept.new result }
+fn respond(agent: &mut AgentHandle, kept: &mut KeptHandle, asked: &AgentAsked<'_>) -> i32
+    ensures { AnswersKept asked.now agent.old kept.old agent.new kept.new result }
 {
     agent.exchange(kept);
-    let answer = agent_calls::respond(agent, now, status, index, list, salt);
+    let answer = responses::respond(agent, asked);
     agent.exchange(kept);
     answer
 }
 
-/// Writes the Response to what is kept, of at most `limit` octets.
-pub(crate) fn respond_within(
-    agent: &mut AgentHandle,
-    kept: &mut KeptHandle,
-    now: u64,
-    status: u32,
-    index: u32,
-    list: &[u8],
-    salt: u64,
-    limit: u32,
-) -> i32
-    ensures { AnswersKeptWithin now status index list.now salt limit agent.old kept.old agent.new kept.new result }
+/// Writes the Response to what is kept, of at most so many octets.
+fn respond_within(agent: &mut AgentHandle, kept: &mut KeptHandle, asked: &AgentAsked<'_>) -> i32
+    ensures { AnswersKeptWithin asked.now agent.old kept.old agent.new kept.new result }
 {
     agent.exchange(kept);
-    let answer = dispatch_calls::respond_within(agent, now, status, index, list, salt, limit);
+    let answer = responses::respond_within(agent, asked);
     agent.exchange(kept);
     answer
 }
 
 /// Writes the Response to what is kept, with the longest front of its bindings that has room.
-pub(crate) fn respond_front(
+fn respond_front(
     agent: &mut AgentHandle,
     kept: &mut KeptHandle,
-    now: u64,
-    status: u32,
-    index: u32,
-    list: &[u8],
-    salt: u64,
-    limit: u32,
-    count: &mut usize,
+    asked: &AgentAsked<'_>,
+    said: &mut AgentSaid,
 ) -> i32
-    ensures { AnswersKeptFront now status index list.now salt limit count.old count.new
-        agent.old kept.old agent.new kept.new result }
+    ensures { AnswersKeptFront asked.now said.old said.new agent.old kept.old agent.new kept.new result }
 {
     agent.exchange(kept);
-    let answer = dispatch_calls::respond_front(agent, now, status, index, list, salt, limit, count);
+    let answer = responses::respond_front(agent, asked, said);
     agent.exchange(kept);
     answer
 }
 
+/// Answers what is kept, by the call of its number.
+pub(crate) fn answer(
+    agent: &mut AgentHandle,
+    kept: &mut KeptHandle,
+    asked: &AgentAsked<'_>,
+    said: &mut AgentSaid,
+) -> i32
+    ensures { KeptAnswered asked.now said.old said.new agent.old kept.old agent.new kept.new result }
+{
+    match AgentCall::of(asked.call) {
+        Some(AgentCall::Respond) => respond(agent, kept, asked),
+        Some(AgentCall::RespondWithin) => respond_within(agent, kept, asked),
+        Some(AgentCall::RespondFront) => respond_front(agent, kept, asked, said),
+        _ => CallFault::BadArgument.code(),
+    }
+}
+
+/// Tells what was accepted.
+fn info(handle: &KeptHandle, said: &mut AgentSaid) -> i32
+    ensures { TellsInfo handle.now said.old said.new result }
+{
+    match handle.numbers() {
+        Some(numbers) => {
+            said.accepted = Accepted::of(&numbers);
+            0
+        }
+        None => CallFault::NothingTaken.code(),
+    }
+}
+
+/// Tells the sender's msgMaxSize.
+fn max_size(handle: &KeptHandle, said: &mut AgentSaid) -> i32
+    ensures { TellsSize handle.now said.old said.new result }
+{
+    match handle.max_size() {
+        Ok(size) => {
+            said.max_size = size;
+            0
+        }
+        Err(fault) => fault.code(),
+    }
+}
+
+/// Tells what the call of this number tells.
+pub(crate) fn call(handle: &mut KeptHandle, number: u32, said: &mut AgentSaid) -> i32
+    ensures { KeptCalled number said.old said.new handle.old handle.new result }
+{
+    match AgentCall::of(number) {
+        Some(AgentCall::Info) => info(handle, said),
+        Some(AgentCall::MaxSize) => max_size(handle, said),
+        _ => CallFault::BadArgument.code(),
+    }
+}
+
 /// Copies the part of this number of what is kept.
-pub(crate) fn part(handle: &mut KeptHandle, number: u32, out: &mut [u8], written: &mut usize) -> i32
+pub(crate) fn copy(handle: &mut KeptHandle, number: u32, out: &mut [u8], written: &mut usize) -> i32
     ensures { TellsKeptPart number out.old out.new written.old written.new handle.old handle.new result }
 {
     match Part::of(number) {
         Some(part) => code_of(handle.part(part, out, written)),
         None => CallFault::BadArgument.code(),
     }
-}
-
-/// Copies the numbers of what is kept.
-pub(crate) fn numbers(handle: &mut KeptHandle, out: &mut [i32]) -> i32
-    ensures { TellsKeptNumbers out.old out.new handle.old handle.new result }
-{
-    let Some(numbers) = handle.numbers() else {
-        return CallFault::NothingTaken.code();
-    };
-    if out.len() < numbers.len() {
-        return CallFault::ShortBuffer.code();
-    }
-    out[..numbers.len()].copy_from_slice(&numbers);
-    0
-}
-
-/// The sender's msgMaxSize of what is kept.
-pub(crate) fn max_size(handle: &mut KeptHandle) -> i64
-    ensures { KeptMaxSize handle.old handle.new result }
-{
-    value_code_of(handle.max_size())
 }
 
 /// Gives back the memory of what is kept.

@@ -7,25 +7,31 @@
 //! keep nothing between two calls.
 #![tactic(auto)]
 
+pub mod accepted;
 pub mod agent;
+pub mod agent_asked;
 mod agent_calls;
+mod answers;
 pub mod bindings;
 pub mod configuration;
+mod copied;
+mod counters;
 pub mod devices;
 pub mod dispatch;
-mod dispatch_calls;
 pub mod forward;
+pub mod forward_asked;
 mod forward_calls;
 pub mod gate;
+pub mod gate_asked;
 mod gate_calls;
+mod gate_copied;
 pub mod kept;
 mod kept_calls;
 pub mod keys;
 pub mod manager;
+pub mod manager_asked;
 mod manager_calls;
 pub mod privacy;
-pub mod reports;
-mod reports_calls;
-pub mod requests;
-mod requests_calls;
+mod requests;
+mod responses;
 pub mod scoped;

@@ -5,14 +5,10 @@ ghost use Rattle.std.specs.Borrow.{full_share, sem};
 ghost use Rattle.std.specs.Ptr.{lies_at};
 ghost use Rattle.snmp_handles.specs.contracts.manager.ManagerHandle as managers;
 ghost use Rattle.snmp_handles.specs.Managers.{ManagerHeld};
-ghost use Rattle.snmp_c.specs.Devices.{is_set};
-ghost use Rattle.snmp_c.specs.ManagerCalls.{MakesAManager, Clears, ManagerTook, Answered, Requested, Discovered};
-ghost use Rattle.snmp_c.specs.ManagerCalls.{Absorbed, Saved, ToldPair, ManagerPart, ManagerMessage, ManagerNumbers};
-ghost use Rattle.snmp_c.specs.ManagerCalls.{Sealed};
+ghost use Rattle.snmp_c.specs.ManagerCalls.{MakesAManager, Clears, ManagerCalled, ManagerCopies};
 
-use crate::manager_calls::{
-    absorb, answer, clear, discover, message, numbers, pair, part, request, save, seal, take,
-};
+use crate::manager_asked::{ManagerAsked, ManagerSaid};
+use crate::manager_calls::{call, clear, copy};
 use snmp_handles::{CallFault, ManagerHandle};
 use snmp_msg::Refusal;
 use std::alloc::Global;
@@ -64,233 +60,39 @@ pub unsafe extern "C" fn proved_manager_clear(at: *mut u8) -> i32
     clear(&mut *(at as *mut ManagerHandle))
 }
 
-/// Takes a datagram at the moment `now`, in seconds, and learns its pair where it is authentic. Where it
-/// answers 0 the message is accepted and kept; a refusal is answered by its number, 1 to 18.
+/// Does what is asked of the manager by the call of its number, which `ManagerCall` has, and tells in `said` what
+/// that call tells; what it doesn't tell stays as it was. It answers 0 where it is done, 1 to 18 for a refusal by
+/// its number, and a negative number for a fault of the call; -1 where no call has the number.
 #[unsafe(no_mangle)]
-pub unsafe extern "C" fn proved_manager_take(at: *mut u8, now: u64, datagram: &[u8]) -> i32
-    ghost held: { ManagerHeld }
-    requires* { sem 𝓛 (lies_at managers.the_row full_share at held) }
-    ensures* { ∃ₛ (λ (new : ManagerHeld). sem 𝓛
-        (lies_at managers.the_row full_share at new) ∗ ⌜ ManagerTook
-        now datagram.now held new result ⌝) }
-{
-    take(&mut *(at as *mut ManagerHandle), now, datagram)
-}
-
-/// What the message that is kept is to the request that was written last: 0 its Response, 1 neither, 10 a
-/// Report that names no counter, 11 to 16 a Report of the counter 1 to 6; -2 where no message is kept or no
-/// request was written.
-#[unsafe(no_mangle)]
-pub unsafe extern "C" fn proved_manager_answer(at: *mut u8) -> i32
-    ghost held: { ManagerHeld }
-    requires* { sem 𝓛 (lies_at managers.the_row full_share at held) }
-    ensures* { ∃ₛ (λ (new : ManagerHeld). sem 𝓛
-        (lies_at managers.the_row full_share at new) ∗ ⌜ Answered held new result ⌝) }
-{
-    answer(&mut *(at as *mut ManagerHandle))
-}
-
-/// Writes a request to the engine with this ID, for this user at the level 1 to 3, with this msgID, contexts,
-/// PDU and variable bindings, leaves it as the message to be sent and waits for its answer. It answers -1
-/// where a number or a length is out of its range, -4 where the octets aren't bindings, and the refusals of
-/// sending: 7, 8, 16, 14. Then nothing changes.
-#[unsafe(no_mangle)]
-pub unsafe extern "C" fn proved_manager_request(
+pub unsafe extern "C" fn proved_manager_call(
     at: *mut u8,
-    now: u64,
-    id: u32,
-    engine: &[u8],
-    user: &[u8],
-    level: u32,
-    context_engine: &[u8],
-    context_name: &[u8],
-    tag: u32,
-    request_id: u32,
-    second: u32,
-    third: u32,
-    list: &[u8],
-    salt: u64,
+    asked: &ManagerAsked<'_>,
+    said: &mut ManagerSaid,
 ) -> i32
     ghost held: { ManagerHeld }
     requires* { sem 𝓛 (lies_at managers.the_row full_share at held) }
     ensures* { ∃ₛ (λ (new : ManagerHeld). sem 𝓛
-        (lies_at managers.the_row full_share at new) ∗ ⌜ Requested now
-        (record {
-          id = id;
-          engine = engine.now;
-          user = user.now;
-          level = level;
-          context_engine = context_engine.now;
-          context_name = context_name.now;
-          tag = tag;
-          request_id = request_id;
-          second = second;
-          third = third;
-        }) list.now salt held new result ⌝) }
+        (lies_at managers.the_row full_share at new) ∗ ⌜ ManagerCalled asked.now said.old said.new held new result ⌝) }
 {
-    request(
-        &mut *(at as *mut ManagerHandle),
-        now,
-        id,
-        engine,
-        user,
-        level,
-        context_engine,
-        context_name,
-        tag,
-        request_id,
-        second,
-        third,
-        list,
-        salt,
-    )
+    call(&mut *(at as *mut ManagerHandle), asked, said)
 }
 
-/// Seals a ScopedPDU, one whole SEQUENCE, for this user at the level 1 to 3, with this msgID, msgMaxSize, engine ID,
-/// boots and time, and with the reportableFlag where that isn't 0, and leaves it as the message to be sent. Its
-/// answer isn't waited for. It answers -1 where a number, a length or the ScopedPDU is out of its range, and the
-/// refusals of sending: 7, 8, 16, 14. Then nothing changes.
+/// Copies octets as `proved_agent_copy` does: a part of the message that is kept, or the message, which is the request
+/// that was written last, or the saved text.
 #[unsafe(no_mangle)]
-pub unsafe extern "C" fn proved_manager_seal(
+pub unsafe extern "C" fn proved_manager_copy(
     at: *mut u8,
-    id: u32,
-    max_size: u32,
-    reportable: u32,
-    engine: &[u8],
-    boots: u32,
-    time: u32,
-    user: &[u8],
-    level: u32,
-    scoped: &[u8],
-    salt: u64,
-) -> i32
-    ghost held: { ManagerHeld }
-    requires* { sem 𝓛 (lies_at managers.the_row full_share at held) }
-    ensures* { ∃ₛ (λ (new : ManagerHeld). sem 𝓛
-        (lies_at managers.the_row full_share at new) ∗ ⌜ Sealed
-        (record {
-          id = id;
-          max_size = max_size;
-          reportable = is_set reportable;
-          engine = engine.now;
-          boots = boots;
-          time = time;
-          user = user.now;
-          level = level;
-        }) scoped.now salt held new result ⌝) }
-{
-    seal(
-        &mut *(at as *mut ManagerHandle),
-        id,
-        max_size,
-        reportable,
-        engine,
-        boots,
-        time,
-        user,
-        level,
-        scoped,
-        salt,
-    )
-}
-
-/// Writes the request by which an engine is discovered, with this msgID, leaves it as the message to be sent
-/// and waits for its answer. It answers -1 where the msgID is above 2147483647, and 14 if memory runs out.
-#[unsafe(no_mangle)]
-pub unsafe extern "C" fn proved_manager_discover(at: *mut u8, id: u32) -> i32
-    ghost held: { ManagerHeld }
-    requires* { sem 𝓛 (lies_at managers.the_row full_share at held) }
-    ensures* { ∃ₛ (λ (new : ManagerHeld). sem 𝓛
-        (lies_at managers.the_row full_share at new) ∗ ⌜ Discovered id held new result ⌝) }
-{
-    discover(&mut *(at as *mut ManagerHandle), id)
-}
-
-/// Joins in the clocks of this saved text, where the marks of version 1 were seen at the moment `now`. It
-/// answers -7 where the text saves none, and 14 if memory runs out; then nothing changes.
-#[unsafe(no_mangle)]
-pub unsafe extern "C" fn proved_manager_absorb(at: *mut u8, text: &[u8], now: u64) -> i32
-    ghost held: { ManagerHeld }
-    requires* { sem 𝓛 (lies_at managers.the_row full_share at held) }
-    ensures* { ∃ₛ (λ (new : ManagerHeld). sem 𝓛
-        (lies_at managers.the_row full_share at new) ∗ ⌜ Absorbed text.now now held new result ⌝) }
-{
-    absorb(&mut *(at as *mut ManagerHandle), text, now)
-}
-
-/// Leaves the saved text of the clocks as the message. It answers 14 if memory runs out, and then nothing changes.
-#[unsafe(no_mangle)]
-pub unsafe extern "C" fn proved_manager_save(at: *mut u8) -> i32
-    ghost held: { ManagerHeld }
-    requires* { sem 𝓛 (lies_at managers.the_row full_share at held) }
-    ensures* { ∃ₛ (λ (new : ManagerHeld). sem 𝓛
-        (lies_at managers.the_row full_share at new) ∗ ⌜ Saved held new result ⌝) }
-{
-    save(&mut *(at as *mut ManagerHandle))
-}
-
-/// Writes the boots and the time that are held of the engine. It answers -1 where the ID hasn't 5 to 32
-/// octets, and -2 where nothing is held; then nothing is written.
-#[unsafe(no_mangle)]
-pub unsafe extern "C" fn proved_manager_pair(
-    at: *mut u8,
-    engine: &[u8],
-    boots: &mut u32,
-    time: &mut u32,
-) -> i32
-    ghost held: { ManagerHeld }
-    requires* { sem 𝓛 (lies_at managers.the_row full_share at held) }
-    ensures* { ∃ₛ (λ (new : ManagerHeld). sem 𝓛
-        (lies_at managers.the_row full_share at new) ∗ ⌜ ToldPair engine.now
-        boots.old boots.new time.old time.new
-        held new result ⌝) }
-{
-    pair(&mut *(at as *mut ManagerHandle), engine, boots, time)
-}
-
-/// Copies a part of the message that is kept, as `proved_agent_part` does.
-#[unsafe(no_mangle)]
-pub unsafe extern "C" fn proved_manager_part(
-    at: *mut u8,
-    number: u32,
+    what: u32,
+    part: u32,
     out: &mut [u8],
     written: &mut usize,
 ) -> i32
     ghost held: { ManagerHeld }
     requires* { sem 𝓛 (lies_at managers.the_row full_share at held) }
     ensures* { ∃ₛ (λ (new : ManagerHeld). sem 𝓛
-        (lies_at managers.the_row full_share at new) ∗ ⌜ ManagerPart number
+        (lies_at managers.the_row full_share at new) ∗ ⌜ ManagerCopies what part
         out.old out.new written.old written.new held
         new result ⌝) }
 {
-    part(&mut *(at as *mut ManagerHandle), number, out, written)
-}
-
-/// Copies the message in the same way: the request that was written last, or the saved text.
-#[unsafe(no_mangle)]
-pub unsafe extern "C" fn proved_manager_message(
-    at: *mut u8,
-    out: &mut [u8],
-    written: &mut usize,
-) -> i32
-    ghost held: { ManagerHeld }
-    requires* { sem 𝓛 (lies_at managers.the_row full_share at held) }
-    ensures* { ∃ₛ (λ (new : ManagerHeld). sem 𝓛
-        (lies_at managers.the_row full_share at new) ∗ ⌜ ManagerMessage
-        out.old out.new written.old written.new held
-        new result ⌝) }
-{
-    message(&mut *(at as *mut ManagerHandle), out, written)
-}
-
-/// Writes the six numbers of the message that is kept, as `proved_agent_numbers` does.
-#[unsafe(no_mangle)]
-pub unsafe extern "C" fn proved_manager_numbers(at: *mut u8, out: &mut [i32]) -> i32
-    ghost held: { ManagerHeld }
-    requires* { sem 𝓛 (lies_at managers.the_row full_share at held) }
-    ensures* { ∃ₛ (λ (new : ManagerHeld). sem 𝓛
-        (lies_at managers.the_row full_share at new) ∗ ⌜ ManagerNumbers
-        out.old out.new held new result ⌝) }
-{
-    numbers(&mut *(at as *mut ManagerHandle), out)
+    copy(&mut *(at as *mut ManagerHandle), what, part, out, written)
 }

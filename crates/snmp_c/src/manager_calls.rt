@@ -1,191 +1,148 @@
 //! What the calls on a manager do, without pointers.
+//!
+//! A call with much on the stack keeps a frame of its own (`inline(never)`): in one frame with all others it would be
+//! deeper than what lib/src wipes behind it.
 
-ghost use Rattle.snmp_c.specs.Devices.{is_set};
-ghost use Rattle.snmp_c.specs.ManagerCalls.{Clears, ManagerTook, Answered, Requested, Discovered, Absorbed, Saved};
-ghost use Rattle.snmp_c.specs.ManagerCalls.{ToldPair, ManagerPart, ManagerMessage, ManagerNumbers, Sealed};
+ghost use Rattle.snmp_c.specs.ManagerCalls.{ManagerCalled, ManagerDoes, ManagerCopies, Clears, ManagerTook};
+ghost use Rattle.snmp_c.specs.ManagerCalls.{TellsManagerInfo, TellsManagerSize, Absorbed, Saved, ToldPair};
 
-use snmp_handles::{AskedOf, CallFault, ManagerHandle, Part, SealedOf, answer_code_of, code_of};
+use crate::accepted::Accepted;
+use crate::answers::{answer, find_answer, report, take_answer};
+use crate::copied::Copied;
+use crate::manager_asked::{ManagerAsked, ManagerCall, ManagerSaid};
+use crate::requests::{ask, ask_discovery, discover, give_up, request, seal};
+use snmp_handles::{CallFault, ManagerHandle, code_of};
 
-/// Gives back all memory but the block of the handle.
-pub(crate) fn clear(handle: &mut ManagerHandle) -> i32
-    ensures { Clears handle.old handle.new result }
+/// Does what is asked by the call of its number.
+pub(crate) fn call(
+    handle: &mut ManagerHandle,
+    asked: &ManagerAsked<'_>,
+    said: &mut ManagerSaid,
+) -> i32
+    ensures { ManagerCalled asked.now said.old said.new handle.old handle.new result }
 {
-    code_of(handle.clear())
+    match ManagerCall::of(asked.call) {
+        Some(call) => done(handle, call, asked, said),
+        None => CallFault::BadArgument.code(),
+    }
+}
+
+/// Does what is asked by this call.
+fn done(
+    handle: &mut ManagerHandle,
+    call: ManagerCall,
+    asked: &ManagerAsked<'_>,
+    said: &mut ManagerSaid,
+) -> i32
+    ensures { ManagerDoes call asked.now said.old said.new handle.old handle.new result }
+{
+    match call {
+        ManagerCall::Take => take(handle, asked.moment, asked.octets),
+        ManagerCall::Info => info(handle, said),
+        ManagerCall::MaxSize => max_size(handle, said),
+        ManagerCall::Answer => answer(handle, said),
+        ManagerCall::TakeAnswer => take_answer(handle, said),
+        ManagerCall::Report => report(handle, said),
+        ManagerCall::Request => request(handle, asked),
+        ManagerCall::Seal => seal(handle, asked),
+        ManagerCall::Discover => discover(handle, asked.message_id),
+        ManagerCall::Ask => ask(handle, asked, said),
+        ManagerCall::AskDiscovery => ask_discovery(handle, asked.message_id, said),
+        ManagerCall::FindAnswer => find_answer(handle, said),
+        ManagerCall::GiveUp => give_up(handle, asked.token),
+        ManagerCall::Absorb => absorb(handle, asked.octets, asked.moment),
+        ManagerCall::Save => save(handle),
+        ManagerCall::Pair => pair(handle, asked.engine, said),
+    }
 }
 
 /// Takes a datagram.
-pub(crate) fn take(handle: &mut ManagerHandle, now: u64, datagram: &[u8]) -> i32
+#[inline(never)]
+fn take(handle: &mut ManagerHandle, now: u64, datagram: &[u8]) -> i32
     ensures { ManagerTook now datagram.now handle.old handle.new result }
 {
     code_of(handle.take(now, datagram))
 }
 
-/// What the message that is kept is to the request.
-pub(crate) fn answer(handle: &mut ManagerHandle) -> i32
-    ensures { Answered handle.old handle.new result }
+/// Tells what was accepted.
+fn info(handle: &mut ManagerHandle, said: &mut ManagerSaid) -> i32
+    ensures { TellsManagerInfo said.old said.new handle.old handle.new result }
 {
-    answer_code_of(handle.answer())
+    match handle.numbers() {
+        Some(numbers) => {
+            said.accepted = Accepted::of(&numbers);
+            0
+        }
+        None => CallFault::NothingTaken.code(),
+    }
 }
 
-/// Writes a request.
-pub(crate) fn request(
-    handle: &mut ManagerHandle,
-    now: u64,
-    id: u32,
-    engine: &[u8],
-    user: &[u8],
-    level: u32,
-    context_engine: &[u8],
-    context_name: &[u8],
-    tag: u32,
-    request_id: u32,
-    second: u32,
-    third: u32,
-    list: &[u8],
-    salt: u64,
-) -> i32
-    ensures { Requested now
-        (record {
-          id = id;
-          engine = engine.now;
-          user = user.now;
-          level = level;
-          context_engine = context_engine.now;
-          context_name = context_name.now;
-          tag = tag;
-          request_id = request_id;
-          second = second;
-          third = third;
-        }) list.now salt handle.old handle.new result }
+/// Tells the sender's msgMaxSize.
+fn max_size(handle: &mut ManagerHandle, said: &mut ManagerSaid) -> i32
+    ensures { TellsManagerSize said.old said.new handle.old handle.new result }
 {
-    let of = AskedOf {
-        id,
-        engine,
-        user,
-        level,
-        context_engine,
-        context_name,
-        tag,
-        request_id,
-        second,
-        third,
-    };
-    code_of(handle.request(now, &of, list, salt))
-}
-
-/// Seals a ScopedPDU.
-pub(crate) fn seal(
-    handle: &mut ManagerHandle,
-    id: u32,
-    max_size: u32,
-    reportable: u32,
-    engine: &[u8],
-    boots: u32,
-    time: u32,
-    user: &[u8],
-    level: u32,
-    scoped: &[u8],
-    salt: u64,
-) -> i32
-    ensures { Sealed
-        (record {
-          id = id;
-          max_size = max_size;
-          reportable = is_set reportable;
-          engine = engine.now;
-          boots = boots;
-          time = time;
-          user = user.now;
-          level = level;
-        }) scoped.now salt handle.old handle.new result }
-{
-    let of = SealedOf {
-        id,
-        max_size,
-        reportable: reportable != 0,
-        engine,
-        boots,
-        time,
-        user,
-        level,
-    };
-    code_of(handle.seal(&of, scoped, salt))
-}
-
-/// Writes the request by which an engine is discovered.
-pub(crate) fn discover(handle: &mut ManagerHandle, id: u32) -> i32
-    ensures { Discovered id handle.old handle.new result }
-{
-    code_of(handle.discover(id))
-}
-
-/// Joins saved clocks in.
-pub(crate) fn absorb(handle: &mut ManagerHandle, text: &[u8], now: u64) -> i32
-    ensures { Absorbed text.now now handle.old handle.new result }
-{
-    code_of(handle.absorb(text, now))
-}
-
-/// Leaves the saved text of the clocks.
-pub(crate) fn save(handle: &mut ManagerHandle) -> i32
-    ensures { Saved handle.old handle.new result }
-{
-    code_of(handle.save())
-}
-
-/// Writes the pair that is held of an engine.
-pub(crate) fn pair(
-    handle: &mut ManagerHandle,
-    engine: &[u8],
-    boots: &mut u32,
-    time: &mut u32,
-) -> i32
-    ensures { ToldPair engine.now boots.old boots.new time.old
-        time.new handle.old handle.new result }
-{
-    match handle.pair(engine) {
-        Ok(pair) => {
-            *boots = pair.boots;
-            *time = pair.time;
+    match handle.max_size() {
+        Ok(size) => {
+            said.max_size = size;
             0
         }
         Err(fault) => fault.code(),
     }
 }
 
-/// Copies the part of this number of what is kept.
-pub(crate) fn part(
+/// Joins saved clocks in.
+#[inline(never)]
+fn absorb(handle: &mut ManagerHandle, text: &[u8], now: u64) -> i32
+    ensures { Absorbed text.now now handle.old handle.new result }
+{
+    code_of(handle.absorb(text, now))
+}
+
+/// Leaves the saved text of the clocks.
+#[inline(never)]
+fn save(handle: &mut ManagerHandle) -> i32
+    ensures { Saved handle.old handle.new result }
+{
+    code_of(handle.save())
+}
+
+/// Tells the pair that is held of an engine.
+fn pair(handle: &mut ManagerHandle, engine: &[u8], said: &mut ManagerSaid) -> i32
+    ensures { ToldPair engine.now said.old said.new handle.old handle.new result }
+{
+    match handle.pair(engine) {
+        Ok(pair) => {
+            said.boots = pair.boots;
+            said.time = pair.time;
+            0
+        }
+        Err(fault) => fault.code(),
+    }
+}
+
+/// Copies what has these numbers.
+pub(crate) fn copy(
     handle: &mut ManagerHandle,
-    number: u32,
+    what: u32,
+    part: u32,
     out: &mut [u8],
     written: &mut usize,
 ) -> i32
-    ensures { ManagerPart number out.old out.new written.old
+    ensures { ManagerCopies what part out.old out.new written.old
         written.new handle.old handle.new result }
 {
-    match Part::of(number) {
-        Some(part) => code_of(handle.part(part, out, written)),
-        None => CallFault::BadArgument.code(),
-    }
-}
-
-/// Copies the message that is to be sent.
-pub(crate) fn message(handle: &mut ManagerHandle, out: &mut [u8], written: &mut usize) -> i32
-    ensures { ManagerMessage out.old out.new written.old written.new handle.old handle.new result }
-{
-    code_of(handle.message(out, written))
-}
-
-/// Copies the numbers of what is kept.
-pub(crate) fn numbers(handle: &mut ManagerHandle, out: &mut [i32]) -> i32
-    ensures { ManagerNumbers out.old out.new handle.old handle.new result }
-{
-    let Some(numbers) = handle.numbers() else {
-        return CallFault::NothingTaken.code();
+    let Some(copied) = Copied::of(what, part) else {
+        return CallFault::BadArgument.code();
     };
-    if out.len() < numbers.len() {
-        return CallFault::ShortBuffer.code();
+    match copied {
+        Copied::OfKept(part) => code_of(handle.part(part, out, written)),
+        Copied::Message => code_of(handle.message(out, written)),
     }
-    out[..numbers.len()].copy_from_slice(&numbers);
-    0
+}
+
+/// Gives back all memory but the block of the handle.
+pub(crate) fn clear(handle: &mut ManagerHandle) -> i32
+    ensures { Clears handle.old handle.new result }
+{
+    code_of(handle.clear())
 }

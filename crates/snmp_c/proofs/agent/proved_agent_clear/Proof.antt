@@ -32,7 +32,7 @@ use denote.Triple.Table.{framed}
 use denote.Triple.Walked.{Stays, walk_of, stay_dropped, Goes-dropped, ends_at}
 use Rattle.snmp_handles.specs.contracts.agent.AgentHandle as handles
 use Rattle.snmp_handles.specs.Agents.{AgentHeld}
-use Rattle.snmp_c.specs.Calls.{ClearsAgent}
+use Rattle.snmp_c.specs.AgentCalls.{ClearsAgent}
 use types.Logic.{sem}
 use Rattle.snmp_c.specs.contracts.agent_calls.clear as g
 use Rattle.snmp_c.proofs.agent_calls.clear.Met.{met}

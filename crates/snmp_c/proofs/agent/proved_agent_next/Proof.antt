@@ -35,7 +35,7 @@ use denote.Triple.Table.{framed}
 use denote.Triple.Walked.{Stays, walk_of, stay_dropped, Goes-dropped, gave_slice, Goes-gave_slice, gave_ref, Goes-gave_ref, ends_at}
 use Rattle.snmp_handles.specs.contracts.agent.AgentHandle as handles
 use Rattle.snmp_handles.specs.Agents.{AgentHeld}
-use Rattle.snmp_c.specs.Calls.{WritesNextName}
+use Rattle.snmp_c.specs.AgentCalls.{WritesNextName}
 use types.Logic.{sem}
 use Rattle.snmp_c.specs.contracts.agent_calls.next as g
 use Rattle.snmp_c.proofs.agent_calls.next.Met.{met}

@@ -1,11 +1,11 @@
--- What lies behind the pointers is lent to `respond`, and comes back. (Written by tools/walk.)
-use Rattle.std.proofs.Common.{ℕ, ℤ, List, Option, [], ◌∷◌, ◌++◌, length, refl, w32, w64}
+-- What lies behind the pointers is lent to `answer`, and comes back. (Written by tools/walk.)
+use Rattle.std.proofs.Common.{ℕ, ℤ, List, Option, [], ◌∷◌, ◌++◌, refl, w32}
 use Rattle.std.proofs.raw_atomic.Walks.{proved}
 use base.Fraction.{full_share}
 use base.Logic.{SProp, emp, ex, ex_i, sep, id⊢}
 use base.Fml.{ftrue, fsep, flft, flent}
 use mir.Syntax.{named}
-use mir.Val.{Val, vint, vptr}
+use mir.Val.{Val, vptr}
 use contract.Monad.{fact, fact_i}
 use contract.Running.{tables}
 use types.Kit.{‵, raw, ◌⊛◌, some, later, prop, ◌$◌, ◌∵◌, !, qed, done, move, keep, drop, use0, use1, use2, use3, split, join, fsplit, fjoin, pick, await, regoal, suffices, group}
@@ -14,38 +14,38 @@ use types.Run.{enter, of_opd, addr, stop, no_more, and_then, returns}
 use types.ByLocal.{alloc_all, pass_all, free_all, look_at, get, through, sets, lands_as}
 use types.Tokens.{lft_new, lft_end}
 use prog.Wp.{WpFn}
-use denote.Builtin.{u8, u32, u64, i32, RawPtr}
+use denote.Builtin.{i32, RawPtr, RefOf}
 use denote.Exit.{yes}
 use denote.RattleType.{owns}
 use denote.Lend.{lends_ref, ref_back}
 use denote.Memory.{mem}
-use denote.Plain.{uint_vals, uint_Tells}
 use denote.Signed.{sint_Lawful}
 use denote.RawPtr.{Ptr, block_ptr, lies_at, in_a_block, rawptr_vals, rawptr_Tells}
-use denote.Ref.{MutRef}
-use denote.Signature.{plain, shr_slice_of}
-use denote.Slice.{ShrSlice, slice_val, shr_slice_vals, shr_slice_Tells}
+use denote.Ref.{MutRef, mut_vals, mut_Tells, ShrRef, shr_vals, shr_Tells}
+use denote.Signature.{plain, named_lft}
 use denote.Steps.{nothing, heard, peeks}
 use denote.Laws.{Is, shows}
 use denote.Triple.Call.{calls_at}
 use denote.Triple.Clauses.{Lasts, lasts}
 use denote.Triple.Spec.{triple_of}
 use denote.Triple.Table.{framed}
-use denote.Triple.Walked.{Stays, walk_of, stay_dropped, Goes-dropped, ends_at}
+use denote.Triple.Walked.{Stays, walk_of, stay_dropped, Goes-dropped, gave_ref, Goes-gave_ref, ends_at}
 use Rattle.snmp_handles.specs.contracts.agent.AgentHandle as handles
+use Rattle.snmp_c.specs.contracts.agent_asked.AgentAsked as asked
+use Rattle.snmp_c.specs.contracts.agent_asked.AgentSaid as said
 use Rattle.snmp_handles.specs.contracts.kept.KeptHandle as kept_handles
 use Rattle.snmp_incoming.specs.Outcome.{Given}
 use Rattle.snmp_handles.specs.Agents.{AgentHeld}
-use Rattle.snmp_c.specs.KeptCalls.{AnswersKept}
+use Rattle.snmp_c.specs.KeptCalls.{KeptAnswered}
 use types.Logic.{sem}
-use Rattle.snmp_c.specs.contracts.kept_calls.respond as g
-use Rattle.snmp_c.proofs.kept_calls.respond.Met.{met}
+use Rattle.snmp_c.specs.contracts.kept_calls.answer as g
+use Rattle.snmp_c.proofs.kept_calls.answer.Met.{met}
 use Rattle.snmp_c.specs.contracts.kept.proved_kept_respond as f
 use Rattle.snmp_c.proofs.kept.proved_kept_respond.Statement.{statement}
 use Rattle.snmp_c.proofs.kept.proved_kept_respond.Code as code
 
 abbrev stayed : Stays f.ended.signature.params f.ended.kept
-stayed = (stay_dropped _ yes, (stay_dropped _ yes, (stay_dropped _ yes, (stay_dropped _ yes, (stay_dropped _ yes, (stay_dropped _ yes, (stay_dropped _ yes, tt)))))))
+stayed = (stay_dropped _ yes, (stay_dropped _ yes, (stay_dropped (RefOf (0 ∷ []) tt (plain (λ κs. asked.the_row (named_lft 3 1 tt κs))) (λ _. tt)) yes, (gave_ref (2 ∷ []) tt (plain (λ _. said.the_row)), tt))))
 
 pub proved_kept_respond_spec : {M : Type 1} → statement M
 proved_kept_respond_spec 𝓤 𝓛 𝓜 𝓡 wired =
@@ -53,26 +53,27 @@ proved_kept_respond_spec 𝓤 𝓛 𝓜 𝓡 wired =
     let R = handles.the_row in
     let R' = kept_handles.the_row in
     proved 𝓛 f.ended stayed c 𝓜 𝓡
-    (Goes-dropped 𝓛 1 (plain (λ _. RawPtr)) yes (λ κs x w. refl), (Goes-dropped 𝓛 1 (plain (λ _. RawPtr)) yes (λ κs x w. refl), (Goes-dropped 𝓛 1 (plain (λ _. u64)) yes (λ κs x w. refl), (Goes-dropped 𝓛 1 (plain (λ _. u32)) yes (λ κs x w. refl), (Goes-dropped 𝓛 1 (plain (λ _. u32)) yes (λ κs x w. refl), (Goes-dropped 𝓛 1 (shr_slice_of (0 ∷ []) tt (plain (λ _. u8))) yes (λ κs x w. refl), (Goes-dropped 𝓛 1 (plain (λ _. u64)) yes (λ κs x w. refl), tt)))))))
+    (Goes-dropped 𝓛 3 (plain (λ _. RawPtr)) yes (λ κs x w. refl), (Goes-dropped 𝓛 3 (plain (λ _. RawPtr)) yes (λ κs x w. refl), (Goes-dropped 𝓛 3 (RefOf (0 ∷ []) tt (plain (λ κs. asked.the_row (named_lft 3 1 tt κs))) (λ _. tt)) yes (λ κs x w. refl), (Goes-gave_ref 𝓛 3 2 tt (plain (λ _. said.the_row)), tt))))
     f.Key.name code.function (code.unfolded 𝓤 𝓛.H 𝓜 𝓡 wired)
-    (λ κs. (rawptr_vals, (rawptr_vals, (uint_vals w64, (uint_vals w32, (uint_vals w32, (shr_slice_vals, (uint_vals w64, tt))))))))
-    (λ κs. (rawptr_Tells, (rawptr_Tells, (uint_Tells w64, (uint_Tells w32, (uint_Tells w32, (shr_slice_Tells (named 0) κs.0 u8, (uint_Tells w64, tt))))))))
+    (λ κs. (rawptr_vals, (rawptr_vals, (shr_vals, (mut_vals, tt)))))
+    (λ κs. (rawptr_Tells, (rawptr_Tells, (shr_Tells (named 0) κs.0 (asked.the_row (named_lft 3 1 tt κs)), (mut_Tells (named 2) κs.1.1.0 said.the_row, tt)))))
     (λ κs qs bounds a marks are.
-    let rest : List Val × (List Val × (List Val × (List Val × (List Val × Unit {0})))) = (uint_vals w64 a.1.1.0, (uint_vals w32 a.1.1.1.0, (uint_vals w32 a.1.1.1.1.0, (shr_slice_vals a.1.1.1.1.1.0, (uint_vals w64 a.1.1.1.1.1.1.0, tt))))) in
+    let rest : List Val × (List Val × Unit {0}) = (shr_vals a.1.1.0, (mut_vals a.1.1.1.0, tt)) in
     let y : Ptr → Ptr → W.Ghost = λ p s. ((κs, qs, bounds, (p, (s, a.1.1)), (rawptr_vals p, (rawptr_vals s, rest))), marks) in
-    let Others = owns (u64 ∷ u32 ∷ u32 ∷ ShrSlice (named 0) κs.0 u8 ∷ u64 ∷ []) a.1.1 rest in
-    let words : List Val = vint w64 a.1.1.0 ∷ vint w32 a.1.1.1.0 ∷ vint w32 a.1.1.1.1.0 ∷ slice_val a.1.1.1.1.1.0.ref_ptr (length a.1.1.1.1.1.0.now) ∷ vint w64 a.1.1.1.1.1.1.0 ∷ [] in
-    qed 𝓛 (((‵ (flft κs.0 qs.0) ⊛ ‵ ftrue) ⊛ ‵ (fsep (RawPtr.own_val a.0 (rawptr_vals a.0)) (fsep (RawPtr.own_val a.1.0 (rawptr_vals a.1.0)) Others))) ∷ (‵ (lies_at R full_share a.0 marks.0) ⊛ ‵ (lies_at R' full_share a.1.0 marks.1)) ∷ []) ∵
+    let Others = owns (ShrRef (named 0) κs.0 (asked.the_row (named_lft 3 1 tt κs)) ∷ MutRef (named 2) κs.1.1.0 said.the_row ∷ []) a.1.1 rest in
+    let words : List Val = vptr a.1.1.0.ref_ptr.0 a.1.1.0.ref_ptr.1 ∷ vptr a.1.1.1.0.ref_ptr.0 a.1.1.1.0.ref_ptr.1 ∷ [] in
+    qed 𝓛 (((‵ (flft κs.0 qs.0) ⊛ (‵ (flft κs.1.0 qs.1.0) ⊛ (‵ (flft κs.1.1.0 qs.1.1.0) ⊛ ‵ ftrue))) ⊛ ‵ (fsep (RawPtr.own_val a.0 (rawptr_vals a.0)) (fsep (RawPtr.own_val a.1.0 (rawptr_vals a.1.0)) Others))) ∷ (‵ (lies_at R full_share a.0 marks.0) ⊛ ‵ (lies_at R' full_share a.1.0 marks.1)) ∷ []) ∵
     split ! $ move ! (1 ∷ []) $ fsplit ! $ drop ! $ fsplit ! $ drop ! $ move ! (2 ∷ []) $ split ! $
     in_a_block ! a.0 (λ p. lies_at R full_share p marks.0) (id⊢ 𝓤 _) (λ b o e. move ! (1 ∷ []) $
     in_a_block ! a.1.0 (λ p. lies_at R' full_share p marks.1) (id⊢ 𝓤 _) (λ b' o' e'.
     regoal ! (λ p. prop (WpFn 𝓤 𝓛.H 𝓣.C 𝓣.Λ code.function (rawptr_vals p ++ (rawptr_vals a.1.0 ++ words)) (W.post (y p a.1.0)))) e refl $
     regoal ! (λ p. prop (WpFn 𝓤 𝓛.H 𝓣.C 𝓣.Λ code.function (rawptr_vals (block_ptr b o) ++ (rawptr_vals p ++ words)) (W.post (y (block_ptr b o) p)))) e' refl $
     enter ! _ _ _ _ _ $
-    alloc_all ! (λ l. pass_all ! refl ((tt, tt), ((tt, tt), ((tt, record { fits = are.1.1.0.1 }), ((tt, record { fits = are.1.1.1.0.1 }), ((tt, record { fits = are.1.1.1.1.0.1 }), ((tt, (tt, (record { fits = are.1.1.1.1.1.0.0.1.0 }, tt))), ((tt, record { fits = are.1.1.1.1.1.1.0.1 }), tt))))))) $
+    alloc_all ! (λ l. pass_all ! refl ((tt, tt), ((tt, tt), ((tt, tt), ((tt, tt), tt)))) $
     sets ! (of_opd ! (get ! refl)) refl (tt, tt) $
     sets ! (addr ! (through ! refl (stop !))) refl (tt, tt) $
     sets ! (of_opd ! (get ! refl)) refl (tt, tt) $
+    sets ! (addr ! (through ! refl (stop !))) refl (tt, tt) $
     sets ! (addr ! (through ! refl (stop !))) refl (tt, tt) $
     lft_new ! tt (λ α. move ! (2 ∷ []) $
     use1 𝓛 (later (some (λ (γ : ℕ). ‵ ((MutRef (named 0) (α ∷ []) R).own_val (record { ref_ptr = (b, o); ghost_name = γ; now = marks.0 }) (vptr b o ∷ [])) ⊛ ‵ (flent (α ∷ []) (Borrowed (mem R) b o γ)))))
@@ -81,14 +82,14 @@ proved_kept_respond_spec 𝓤 𝓛 𝓜 𝓡 wired =
     use1 𝓛 (later (some (λ (δ : ℕ). ‵ ((MutRef (named 1) (β ∷ []) R').own_val (record { ref_ptr = (b', o'); ghost_name = δ; now = marks.1 }) (vptr b' o' ∷ [])) ⊛ ‵ (flent (β ∷ []) (Borrowed (mem R') b' o' δ)))))
     (lends_ref 𝓛 R' (named 1) (β ∷ []) marks.1 b' o') $ await ! tt $ pick ! (λ δ. split ! $
     let G = triple_of 𝓛 g.signature (g.spec 𝓛 𝓜.mem 𝓡.returns) in
-    let z : G.Ghost = (((α ∷ [], (β ∷ [], κs)), (full_share, (full_share, qs)), tt, (record { ref_ptr = (b, o); ghost_name = γ; now = marks.0 }, (record { ref_ptr = (b', o'); ghost_name = δ; now = marks.1 }, a.1.1)), (vptr b o ∷ [], (vptr b' o' ∷ [], rest))), tt) in
+    let z : G.Ghost = (((α ∷ [], (β ∷ [], κs)), (full_share, (full_share, qs)), bounds, (record { ref_ptr = (b, o); ghost_name = γ; now = marks.0 }, (record { ref_ptr = (b', o'); ghost_name = δ; now = marks.1 }, a.1.1)), (vptr b o ∷ [], (vptr b' o' ∷ [], rest))), tt) in
     move ! (0 ∷ 6 ∷ []) $ fjoin ! $ move ! (3 ∷ 0 ∷ []) $ fjoin ! $
     move ! (2 ∷ 5 ∷ []) $ join ! $ move ! (4 ∷ []) $ join ! $ join ! $
     nothing ! $ move ! (1 ∷ 0 ∷ []) $ use2 𝓛 (raw (G.pre z)) (id⊢ 𝓤 _) $
-    calls_at ! (framed 𝓤 𝓛.H 𝓜 (tables 𝓤 𝓛.H 𝓜 𝓡 𝓡.env)) G (met 𝓤 𝓛 𝓜 𝓡 (code.calls-snmp_c::kept_calls::respond 𝓡.env wired)) z
-    (and_then ! (get ! refl) (and_then ! (get ! refl) (and_then ! (get ! refl) (and_then ! (get ! refl) (and_then ! (get ! refl) (and_then ! (get ! refl) (and_then ! (get ! refl) (no_more !)))))))) (λ v.
-    use1 𝓛 (later (some (λ (r : ℤ). ((‵ (flft (α ∷ []) full_share) ⊛ (‵ (flft (β ∷ []) full_share) ⊛ (‵ (flft κs.0 qs.0) ⊛ ‵ ftrue))) ⊛ ‵ (i32.own_val r (v ∷ []))) ⊛
-    some (λ (ws : Lasts g.ended z.0.0 z.0.3). ‵ (lasts g.ended z.0.0 z.0.3 ws) ⊛ raw (fact 𝓤 (AnswersKept a.1.1.0 a.1.1.1.0 a.1.1.1.1.0 a.1.1.1.1.1.0.now a.1.1.1.1.1.1.0 marks.0 marks.1 ws.0 ws.1.0 r)))))) (id⊢ 𝓤 _) $
+    calls_at ! (framed 𝓤 𝓛.H 𝓜 (tables 𝓤 𝓛.H 𝓜 𝓡 𝓡.env)) G (met 𝓤 𝓛 𝓜 𝓡 (code.calls-snmp_c::kept_calls::answer 𝓡.env wired)) z
+    (and_then ! (get ! refl) (and_then ! (get ! refl) (and_then ! (get ! refl) (and_then ! (get ! refl) (no_more !))))) (λ v.
+    use1 𝓛 (later (some (λ (r : ℤ). ((‵ (flft (α ∷ []) full_share) ⊛ (‵ (flft (β ∷ []) full_share) ⊛ (‵ (flft κs.0 qs.0) ⊛ (‵ (flft κs.1.0 qs.1.0) ⊛ (‵ (flft κs.1.1.0 qs.1.1.0) ⊛ ‵ ftrue))))) ⊛ ‵ (i32.own_val r (v ∷ []))) ⊛
+    some (λ (ws : Lasts g.ended z.0.0 z.0.3). ‵ (lasts g.ended z.0.0 z.0.3 ws) ⊛ raw (fact 𝓤 (KeptAnswered a.1.1.0.now a.1.1.1.0.now ws.1.1.1.0 marks.0 marks.1 ws.0 ws.1.0 r)))))) (id⊢ 𝓤 _) $
     await ! tt $ pick ! (λ r. split ! $ split ! $ split ! $ lft_end ! tt $ move ! (1 ∷ []) $ split ! $ lft_end ! tt $
     move ! (3 ∷ []) $ peeks ! i32 (Is i32) (shows 𝓛 i32) r (v ∷ []) (λ is.
     lands_as ! refl refl ((sint_Lawful 𝓛 w32).typed r _ is).0 $
@@ -98,23 +99,17 @@ proved_kept_respond_spec 𝓤 𝓛 𝓜 𝓡 wired =
     move ! (6 ∷ 8 ∷ 0 ∷ []) $ use3 𝓛 (later (‵ (lies_at R' full_share (block_ptr b' o') ws.1.0))) (ref_back 𝓛 R' (β ∷ []) δ ws.1.0 b' o') $ await ! tt $
     returns ! (look_at ! 0 refl) $ free_all ! refl $ keep ! (0 ∷ 2 ∷ 3 ∷ 5 ∷ 6 ∷ []) $ move ! (1 ∷ []) $
     fsplit ! $ drop ! $
-    fsplit ! $ drop ! $
-    fsplit ! $ drop ! $
-    fsplit ! $ drop ! $
-    fsplit ! $ drop ! $
+    fsplit ! $ move ! (1 ∷ []) $
     -- [nothing; the mutable ones, the last first; what lies there; the result; the tokens]
-    move ! (1 ∷ 2 ∷ []) $
-    let L : AgentHeld × Option Given → Type 0 = λ new. AnswersKept a.1.1.0 a.1.1.1.0 a.1.1.1.1.0 a.1.1.1.1.1.0.now a.1.1.1.1.1.1.0 marks.0 marks.1 new.0 new.1 r in
+    move ! (2 ∷ 3 ∷ []) $
+    let L : AgentHeld × Option Given → Type 0 = λ new. KeptAnswered a.1.1.0.now a.1.1.1.0.now ws.1.1.1.0 marks.0 marks.1 new.0 new.1 r in
     let both : AgentHeld × Option Given = (ws.0, ws.1.0) in
     use0 𝓛 (raw (fact 𝓤 (L both))) (fact_i 𝓤 (L both) (emp 𝓤) learns) $ move ! (1 ∷ 0 ∷ []) $ join ! $ move ! (1 ∷ 0 ∷ []) $
     let Left : AgentHeld × Option Given → SProp 𝓤 = λ new. sep 𝓤 (sem 𝓛 (lies_at R full_share (block_ptr b o) new.0))
     (sep 𝓤 (sem 𝓛 (lies_at R' full_share (block_ptr b' o') new.1)) (fact 𝓤 (L new))) in
     use2 𝓛 (raw (ex 𝓤 Left)) (ex_i 𝓤 Left both) $
-    suffices ! _ (ends_at 𝓛 f.ended stayed c (y (block_ptr b o) (block_ptr b' o')) v r (tt, (tt, (tt, (tt, (tt, (tt, (tt, tt))))))) (tt, (tt, (tt, (tt, (tt, (tt, (tt, tt)))))))) $
+    suffices ! _ (ends_at 𝓛 f.ended stayed c (y (block_ptr b o) (block_ptr b' o')) v r (tt, (tt, (tt, (ws.1.1.1.0, tt)))) (tt, (tt, (tt, (tt, tt))))) $
     move ! (1 ∷ []) $
-    nothing ! $ fjoin ! $
-    nothing ! $ fjoin ! $
-    nothing ! $ fjoin ! $
-    nothing ! $ fjoin ! $
+    move ! (2 ∷ 0 ∷ []) $ fjoin ! $
     nothing ! $ fjoin ! $
     nothing ! $ fjoin ! $ nothing ! $ fjoin ! $ move ! (3 ∷ 0 ∷ 2 ∷ []) $ group ! 3 $ done !)))))))))))))
