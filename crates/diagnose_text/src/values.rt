@@ -182,21 +182,16 @@ fn value_as(alloc: Global, syntax: Syntax, content: &[u8]) -> Result<Value, Allo
 
 /// Adds a value after the name of its type.
 pub(crate) fn put_value(out: &mut String, value: &Value) -> Result<(), AllocError> {
+    out.push_str(kind_of(value))?;
     match value {
-        Value::Integer(number) => write!(out, "INTEGER {number}"),
-        Value::Unsigned(syntax, number) => {
-            let name = syntax_name(*syntax);
-            write!(out, "{name} {number}")
-        }
-        Value::Counter64(number) => write!(out, "Counter64 {number}"),
-        Value::Text(text) => write!(out, "STRING \"{text}\""),
-        Value::Identifier(text) => write!(out, "OID {text}"),
-        Value::Address([a, b, c, d]) => write!(out, "IpAddress {a}.{b}.{c}.{d}"),
-        Value::Octets(syntax, digits) => {
-            let name = type_name(*syntax);
-            write!(out, "{name} 0x{digits}")
-        }
-        Value::Bare(syntax) => out.push_str(syntax_name(*syntax)),
+        Value::Integer(number) => write!(out, " {number}"),
+        Value::Unsigned(_, number) => write!(out, " {number}"),
+        Value::Counter64(number) => write!(out, " {number}"),
+        Value::Text(text) => write!(out, " \"{text}\""),
+        Value::Identifier(text) => write!(out, " {text}"),
+        Value::Address([a, b, c, d]) => write!(out, " {a}.{b}.{c}.{d}"),
+        Value::Octets(_, digits) => write!(out, " 0x{digits}"),
+        Value::Bare(_) => Ok(()),
     }
 }
 
@@ -206,23 +201,37 @@ pub(crate) fn variable_object(
     variable: &(String, Value),
 ) -> Result<Json, AllocError> {
     let name = Json::try_from_str(alloc, &variable.0)?;
-    let (kind, value) = match &variable.1 {
-        Value::Integer(number) => ("INTEGER", Json::from(*number)),
-        Value::Unsigned(syntax, number) => (syntax_name(*syntax), Json::from(*number)),
-        Value::Counter64(number) => ("Counter64", Json::from(*number)),
-        Value::Text(text) => ("STRING", Json::try_from_str(alloc, text)?),
-        Value::Identifier(text) => ("OID", Json::try_from_str(alloc, text)?),
-        Value::Address([a, b, c, d]) => {
-            (
-                "IpAddress",
-                Json::from(format!(in alloc; "{a}.{b}.{c}.{d}")?),
-            )
+    let kind = kind_of(&variable.1);
+    let value = value_or_null(alloc, &variable.1)?;
+    match &variable.1 {
+        Value::Octets(..) => json!(in alloc; {"name": name, "type": kind, "hex": value}),
+        _ => json!(in alloc; {"name": name, "type": kind, "value": value}),
+    }
+}
+
+/// The name of the type of a value.
+fn kind_of(value: &Value) -> &'static str {
+    match value {
+        Value::Integer(_) => "INTEGER",
+        Value::Unsigned(syntax, _) | Value::Bare(syntax) => syntax_name(*syntax),
+        Value::Counter64(_) => "Counter64",
+        Value::Text(_) => "STRING",
+        Value::Identifier(_) => "OID",
+        Value::Address(_) => "IpAddress",
+        Value::Octets(syntax, _) => type_name(*syntax),
+    }
+}
+
+/// A value, or null if its type says all.
+fn value_or_null(alloc: Global, value: &Value) -> Result<Json, AllocError> {
+    match value {
+        Value::Integer(number) => Ok(Json::from(*number)),
+        Value::Unsigned(_, number) => Ok(Json::from(*number)),
+        Value::Counter64(number) => Ok(Json::from(*number)),
+        Value::Text(text) | Value::Identifier(text) | Value::Octets(_, text) => {
+            Json::try_from_str(alloc, text)
         }
-        Value::Octets(syntax, digits) => {
-            let digits = Json::try_from_str(alloc, digits)?;
-            return json!(in alloc; {"name": name, "type": type_name(*syntax), "hex": digits});
-        }
-        Value::Bare(syntax) => (syntax_name(*syntax), Json::Null),
-    };
-    json!(in alloc; {"name": name, "type": kind, "value": value})
+        Value::Address([a, b, c, d]) => Ok(Json::from(format!(in alloc; "{a}.{b}.{c}.{d}")?)),
+        Value::Bare(_) => Ok(Json::Null),
+    }
 }

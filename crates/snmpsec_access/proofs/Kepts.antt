@@ -10,7 +10,7 @@ use Rattle.vacm_core.specs.View.{AnswersView}
 use Rattle.snmpsec_access.specs.Seen.{refusal, by_lines, answer_of, line_of, rows_of}
 use Rattle.snmpsec_access.specs.Rising.{AreRising, AreKept, IsOfView, rows_at}
 use Rattle.snmpsec_access.proofs.Members.{row_of, among_all, of_view, back, exact_moved}
-use Rattle.snmpsec_access.proofs.Deciding.{decides}
+use Rattle.snmpsec_access.proofs.Decides.{decides}
 use Rattle.snmpsec_access.proofs.Shortens.{lines_needed}
 
 -- references to no row, and to some

@@ -1,5 +1,5 @@
 pub mod Walks
-pub mod SeenLines
+pub mod Seeing
 pub mod Wholes
 pub mod Named
 pub mod Belows
@@ -7,16 +7,14 @@ pub mod Refused
 pub mod Members
 pub mod Begins
 pub mod Shortens
-pub mod Deciding
+pub mod Decides
 pub mod Picks
 pub mod FirstPlaces
 pub mod Longest
 pub mod Kepts
 pub mod Tolds
-pub mod Dots
 pub mod Seens
 pub mod Added
 pub mod HintWalks
 pub mod Numbering
-pub mod HintsTold
 pub mod NameTexts

@@ -12,7 +12,7 @@ use Rattle.vacm_core.specs.View.{IsExact, AreExact}
 use Rattle.snmpsec_access.specs.Rising.{AreLeft, IsNext, rows_at, saying}
 use Rattle.snmpsec_access.proofs.Begins.{begins, fits_exact}
 use Rattle.snmpsec_access.proofs.Shortens.{saying_more, left_out, kept_more}
-use Rattle.snmpsec_access.proofs.Deciding.{above_earlier}
+use Rattle.snmpsec_access.proofs.Decides.{above_earlier}
 
 -- ---- references and what they point to
 

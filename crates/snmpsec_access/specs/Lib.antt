@@ -8,7 +8,6 @@ pub mod Seen
 pub mod Rising
 pub mod Names
 pub mod Hints
-pub mod Lines
 pub mod Known
 pub mod Headings
 pub mod Found

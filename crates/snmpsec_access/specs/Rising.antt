@@ -1,8 +1,7 @@
 -- The rows of a view from the least up, those of them that are needed, and what the values of the code say of them.
-use Rattle.std.specs.Prelude.{◌≡◌, ◌≢◌, ◌⊎◌, ℕ, ◌<◌, ◌||◌, Bool, List, [], ◌∷◌, ◌++◌, length, get_or, remove}
+use Rattle.std.specs.Prelude.{◌≡◌, ◌≢◌, ◌⊎◌, ℕ, ◌<◌, Bool, List, [], ◌∷◌, ◌++◌, length, get_or, remove}
 use Rattle.std.specs.Prelude.{Contains, map}
 use Rattle.std.specs.Borrow.{Bor}
-use Rattle.std.specs.List.{flat_map}
 use Rattle.std.specs.List.Sorted.{IsSorted, IsPermutation}
 use Rattle.vacm_core.specs.declared.rows.FamilyRow.{FamilyRow}
 use Rattle.vacm_core.specs.Allowed.{family_order}
@@ -10,12 +9,12 @@ use Rattle.vacm_core.specs.Tables.{Tables}
 use Rattle.vacm_core.specs.View.{AreExact, AnswersView}
 use Rattle.vacm_core.specs.declared.steps.Asking.{Asking}
 use Rattle.vacm_core.specs.Steps.{requester_of}
-use Rattle.snmpsec_access.specs.declared.told.Told.{Told}
-use Rattle.snmpsec_access.specs.declared.told.Told.TheVariants.{Refusal, Rows}
+use Rattle.snmpsec_access.specs.declared.deciding.Deciding.{Deciding}
+use Rattle.snmpsec_access.specs.declared.deciding.Deciding.TheVariants.{Refusal, Rows}
 use Rattle.snmpsec_access.specs.declared.viewer.Seen.{Seen}
 use Rattle.snmpsec_access.specs.Askers.{Asker}
 use Rattle.snmpsec_access.specs.Seen.{Decision, refusal, by_lines, Decided, IsDecided, IsRefusal, AreLinesOf}
-use Rattle.snmpsec_access.specs.Seen.{answer_of, is_included, line_of, rows_of, decided_text, any_includes}
+use Rattle.snmpsec_access.specs.Seen.{answer_of, is_included, line_of, rows_of}
 
 -- what references point to
 abbrev pub rows_at : List (Bor FamilyRow) → List FamilyRow
@@ -50,9 +49,9 @@ pub record AreLeft (seen kept : List FamilyRow) : Type 0 where
 abbrev pub AreKept : List FamilyRow → List FamilyRow → Type 0
 AreKept rows kept = (AreExact rows × AreLeft rows kept) ⊎ ((¬ AreExact rows) × (kept ≡ rows))
 
--- ---- what is reported
+-- ---- what decides
 
-abbrev pub decision_of : Told → Decision
+abbrev pub decision_of : Deciding → Decision
 decision_of (Refusal answer) = refusal answer
 decision_of (Rows rows) = by_lines (map line_of (rows_at rows.items))
 
@@ -67,10 +66,19 @@ IsOfView families view (by_lines lines) =
 abbrev pub asker_of : Asking → Asker
 asker_of asking = record { message = requester_of asking; view = asking.view }
 
--- The text goes on with what is reported of these questions.
-pub record SeesOn (t : Tables) (from : List Asker) (before after : Seen) : Type 0 where
+-- what is seen of a name of this model
+abbrev pub decided_of : ℕ → List ℕ → Seen → Decided
+decided_of model name s = record {
+  asker = record {
+    message = record { model = model; name = name; level = s.level; context = s.context.now };
+    view = s.view;
+  };
+  decision = decision_of s.deciding;
+}
+
+-- The list goes on with what decides on these questions.
+pub record SeesOn (t : Tables) (from : List Asker) (before after : List Decided) : Type 0 where
   pub decisions : List Decided
   pub askers : map (λ d. d.asker) decisions ≡ from
   pub each : (d : Decided) → Contains decisions d → IsDecided t d
-  pub lines : after.text.items ≡ before.text.items ++ flat_map decided_text decisions
-  pub some : after.included ≡ (before.included || any_includes decisions)
+  pub joined : after ≡ before ++ decisions

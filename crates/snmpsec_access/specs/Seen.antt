@@ -12,12 +12,11 @@
 -- lines of the view that the best access row names (`ByView`). `IsDecision`: an answer that no variable
 -- changes (`IsRefusal`), for each variable; or lines that decide.
 --
--- `TellsSeen tables model name text included`. The text has a decision for each level, view and context
--- row, in this order (`viewers`): the line of the answer, or the lines that decide, and that of notInView
--- where there is none (`decision_text`). `included`: a line includes something.
+-- `AreSeen tables model name decisions`. There is a decision for each level, view and context row, in this
+-- order (`viewers`). `any_includes`: a line of one of them includes something.
 use Rattle.std.specs.Prelude.{◌≡◌, ◌≢◌, ◌⊎◌, ⊤, ℕ, ◌+◌, ◌<◌, ◌==◌, ◌&&◌, Bool, true, false, if◌then◌else◌, List, []}
-use Rattle.std.specs.Prelude.{◌∷◌, ◌++◌, length, map, fold, remove, Contains, codes, decimal, Option, Some, None}
-use Rattle.std.specs.List.{flat_map, filter, join_with_byte, list_any}
+use Rattle.std.specs.Prelude.{◌∷◌, length, map, fold, remove, Contains, Option, Some, None}
+use Rattle.std.specs.List.{flat_map, filter, list_any}
 use Rattle.std.specs.List.Sorted.{IsSorted, IsPermutation}
 use Rattle.std.specs.Str.{bytes_eq}
 use Rattle.snmp_ber.specs.declared.level.Level.{Level}
@@ -31,9 +30,6 @@ use Rattle.vacm_core.specs.declared.rows.FamilyRow.{FamilyRow}
 use Rattle.vacm_core.specs.Allowed.{Requester, Allowed, ByView, mask_bit, family_order}
 use Rattle.vacm_core.specs.Tables.{Tables}
 use Rattle.vacm_core.specs.View.{AreExact}
-use Rattle.snmpsec_config.specs.Words.{level_word}
-use Rattle.snmpsec_access.specs.Words.{view_word, access_word}
-use Rattle.snmpsec_access.specs.NameText.{context_text}
 use Rattle.snmpsec_access.specs.Askers.{Asker, levels}
 
 -- ---- lines
@@ -135,51 +131,12 @@ of_level contexts model name level = flat_map (λ view. map (viewer model name l
 abbrev pub viewers : List ContextRow → ℕ → List ℕ → List Asker
 viewers contexts model name = flat_map (of_level contexts model name) levels
 
--- ---- the text
-
-abbrev pub arc_text : Option ℕ → List ℕ
-arc_text None = codes "*"
-arc_text (Some arc) = decimal arc
-
--- the arcs with a dot between each two
-abbrev pub pattern_text : List (Option ℕ) → List ℕ
-pattern_text pattern = join_with_byte 46 (map arc_text pattern)
-
--- the dot before the arc of this number
-abbrev pub dot_before : ℕ → List ℕ
-dot_before k = if k == 0 then [] else codes "."
-
--- the arc of this number in the text of a subtree
-abbrev pub arc_at : List ℕ → ℕ → ℕ → List ℕ
-arc_at mask k arc = dot_before k ++ arc_text (if mask_bit mask k == 1 then Some arc else None)
-
-abbrev pub sign : Bool → List ℕ
-sign true = codes "+ "
-sign false = codes "- "
-
--- `LEVEL VIEW CONTEXT `
-abbrev pub head : Asker → List ℕ
-head a = level_word a.message.level
-    ++ (codes " " ++ (view_word a.view ++ (codes " " ++ (context_text a.message.context ++ codes " "))))
-
-abbrev pub seen_line : Asker → Line → List ℕ
-seen_line a line = head a ++ (sign line.include ++ (pattern_text line.pattern ++ codes "\n"))
-
-abbrev pub answer_line : Asker → Access → List ℕ
-answer_line a answer = head a ++ (access_word answer ++ codes "\n")
-
--- the line of the answer, or the lines that decide; notInView where there is none
-abbrev pub decision_text : Asker → Decision → List ℕ
-decision_text a (refusal answer) = answer_line a answer
-decision_text a (by_lines []) = answer_line a NotInView
-decision_text a (by_lines (line ∷ lines)) = flat_map (seen_line a) (line ∷ lines)
-
 -- a line includes what fits it
 abbrev pub includes : Decision → Bool
 includes (refusal answer) = false
 includes (by_lines lines) = list_any (λ line. line.include) lines
 
--- a question, and what is reported of it
+-- a question, and what decides on it
 pub record Decided : Type 0 where
   pub asker : Asker
   pub decision : Decision
@@ -187,16 +144,10 @@ pub record Decided : Type 0 where
 abbrev pub IsDecided : Tables → Decided → Type 0
 IsDecided t d = IsDecision t d.asker d.decision
 
-abbrev pub decided_text : Decided → List ℕ
-decided_text d = decision_text d.asker d.decision
-
 abbrev pub any_includes : List Decided → Bool
 any_includes decisions = list_any (λ d. includes d.decision) decisions
 
--- Each question of the name is reported, in their order, and whether a line includes anything.
-pub record TellsSeen (t : Tables) (model : ℕ) (name text : List ℕ) (included : Bool) : Type 0 where
-  pub decisions : List Decided
+-- Each question of the name is decided, in their order.
+pub record AreSeen (t : Tables) (model : ℕ) (name : List ℕ) (decisions : List Decided) : Type 0 where
   pub askers : map (λ d. d.asker) decisions ≡ viewers t.contexts model name
   pub each : (d : Decided) → Contains decisions d → IsDecided t d
-  pub lines : text ≡ flat_map decided_text decisions
-  pub some : included ≡ any_includes decisions

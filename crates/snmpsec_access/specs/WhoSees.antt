@@ -1,15 +1,14 @@
 -- Who may see a variable, or some name at or below it (RFC 3415, section 3): of the questions that can be answered
 -- accessAllowed those that are.
 --
--- `TellsWho tables views only users extent variable text`. The text has the line of each of these that sees what is
--- asked for, in their order, and no other (`AreThose`). `Sees`: isAccessAllowed answers accessAllowed, of the
--- variable or of some name at or below it (`Extent.SeesWanted`), and where users alone are wanted it is one of theirs:
--- `IsUserAt`, a name of the user-based model that is a user's, who supports the level.
+-- `AreSeeing tables views only users extent variable seeing`. These are those of the questions that see what is asked
+-- for, in their order, and no other (`AreThose`). `Sees`: isAccessAllowed answers accessAllowed, of the variable or of
+-- some name at or below it (`Extent.SeesWanted`), and where users alone are wanted it is one of theirs: `IsUserAt`, a
+-- name of the user-based model that is a user's, who supports the level.
 --
 -- `AnswerFor tables rows`. What loading gives: tables answer as is answered over the rows, and of each
 -- index there is one row. ### What a name sees (`Seen`)
 use Rattle.std.specs.Prelude.{◌≡◌, ◌⊎◌, ℕ, Bool, true, List, [], ◌∷◌, ◌++◌, map}
-use Rattle.std.specs.List.{flat_map}
 use Rattle.snmp_ber.specs.declared.level.Level.{Level}
 use Rattle.usm_users.specs.declared.load.UserRow.{UserRow}
 use Rattle.usm_users.specs.Rows.{user_of}
@@ -19,11 +18,12 @@ use Rattle.vacm_core.specs.declared.access.Access.{Access}
 use Rattle.vacm_core.specs.Allowed.{Requester, Allowed}
 use Rattle.vacm_core.specs.Distinct.{HasOneRowEach}
 use Rattle.vacm_core.specs.Tables.{Tables, tables_of, HaveSameRows}
+use Rattle.snmpsec_access.specs.declared.who.AllowedAsker.{AllowedAsker}
 use Rattle.snmpsec_access.specs.declared.who.WhoSeesQuery.{WhoSeesQuery}
 use Rattle.snmpsec_access.specs.declared.extent.Extent.{Extent}
 use Rattle.snmpsec_access.specs.declared.extent.Extent.TheVariants.{Below}
 use Rattle.snmpsec_access.specs.Extent.{SeesWanted}
-use Rattle.snmpsec_access.specs.Askers.{Asker, askers, asker_line}
+use Rattle.snmpsec_access.specs.Askers.{Asker, askers}
 
 -- those of these of which P holds, in their order
 abbrev pub AreThose : {A : Type 0} → (A → Type 0) → List A → List A → Type 0
@@ -48,14 +48,10 @@ pub record Sees (t : Tables) (only : Bool) (users : List UserRow) (extent : Exte
   pub wanted : IsWanted only users a.message.model a.message.name a.message.level
   pub seen : SeesWanted t extent a.message a.view variable
 
--- ---- the text
-
--- There is a line for each that sees what is asked for, and no other.
-pub record TellsWho (t : Tables) (views : List ViewType) (only : Bool) (users : List UserRow) (extent : Extent)
-    (variable text : List ℕ) : Type 0 where
-  pub seeing : List Asker
-  pub those : AreThose (Sees t only users extent variable) (askers t views) seeing
-  pub lines : text ≡ flat_map asker_line seeing
+-- These see what is asked for, and no others.
+abbrev pub AreSeeing : Tables → List ViewType → Bool → List UserRow → Extent → List ℕ → List Asker → Type 0
+AreSeeing t views only users extent variable seeing =
+    AreThose (Sees t only users extent variable) (askers t views) seeing
 
 -- ---- what the values of the code say
 
@@ -73,8 +69,14 @@ pub record IsReady (w : WhoSeesQuery) : Type 0 where
 abbrev pub SeesIt : WhoSeesQuery → Asker → Type 0
 SeesIt w = Sees (tables_of w.rows.now) w.only_users w.users.now w.extent w.variable.now
 
--- The text goes on with a line for each of these of which P holds, and no other.
-pub record GoesOn (P : Asker → Type 0) (from : List Asker) (before after : List ℕ) : Type 0 where
+abbrev pub asker_of : AllowedAsker → Asker
+asker_of a = record {
+  message = record { model = a.model; name = a.name.now; level = a.level; context = a.context.now };
+  view = a.view;
+}
+
+-- The list goes on with each of these of which P holds, and no other.
+pub record GoesOn (P : Asker → Type 0) (from before after : List Asker) : Type 0 where
   pub seeing : List Asker
   pub those : AreThose P from seeing
-  pub lines : after ≡ before ++ flat_map asker_line seeing
+  pub joined : after ≡ before ++ seeing

@@ -10,7 +10,7 @@ use vacm_core::{Asking, Vacm};
 use vacm_next::opens;
 
 /// What is asked of a name.
-#[derive(Clone, Copy, Debug, PartialEq, Eq)]
+#[derive(Clone, Copy)]
 pub enum Extent {
     /// Who may see its variable.
     Variable,

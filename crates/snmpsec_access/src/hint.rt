@@ -1,13 +1,10 @@
 //! A hint: what is odd of which row.
 
-ghost use Rattle.std.specs.Prelude.{◌≡◌};
-ghost use Rattle.snmpsec_access.specs.Lines.{table_of, odd_words};
-
 use snmpsec_config::ConfigTable;
 use vacm_core::ViewType;
 
 /// What isn't a fault in a row of a configuration and is probably a mistake.
-#[derive(Clone, Copy, Debug, PartialEq, Eq)]
+#[derive(Clone, Copy)]
 pub enum Oddity {
     /// A user whom no group row of the user-based security model names.
     UserWithoutGroup,
@@ -27,9 +24,7 @@ pub enum Oddity {
 
 impl Oddity {
     /// The table of the row.
-    pub fn table(self) -> ConfigTable
-        ensures { result ≡ table_of self }
-    {
+    pub(crate) fn table(self) -> ConfigTable {
         match self {
             Oddity::UserWithoutGroup => ConfigTable::User,
             Oddity::GroupWithoutAccess | Oddity::NameWithoutUser => ConfigTable::Group,
@@ -41,9 +36,7 @@ impl Oddity {
     }
 
     /// What is odd, in words, after which the name comes.
-    pub fn words(self) -> &'static str
-        ensures { result.now ≡ odd_words self }
-    {
+    pub(crate) fn words(self) -> &'static str {
         match self {
             Oddity::UserWithoutGroup => "no group row of model 3 has the name ",
             Oddity::GroupWithoutAccess => "no access row has the group ",
@@ -59,7 +52,7 @@ impl Oddity {
 }
 
 /// A hint: what is odd, of the row at which position of its table, from 0, and the name that it is about.
-#[derive(Clone, Copy, Debug, PartialEq, Eq)]
+#[derive(Clone, Copy)]
 pub struct Hint<'a> {
     pub what: Oddity,
     pub position: usize,

@@ -3,14 +3,13 @@
 //! without authentication.
 //!
 //! ```
-//! use snmpsec_access::{access_word, put_name, view_word};
+//! use snmpsec_access::{access_word, name_text, view_word};
 //! use vacm_core::{Access, ViewType};
 //!
 //! assert_eq!(rt; view_word(ViewType::Read), "read");
 //! assert_eq!(rt; access_word(Access::NotInView), "notInView");
-//! let mut word = Vec::new(rt.alloc());
-//! put_name(&mut word, b"tom tom")?;
-//! assert_eq!(rt; word.as_slice(), b"\"tom tom\"".as_slice());
+//! let word = name_text(rt.alloc(), b"tom tom")?;
+//! assert_eq!(rt; word.as_str(), "\"tom tom\"");
 //! ```
 //!
 //! ```
@@ -30,6 +29,7 @@
 //! ```
 #![tactic(auto)]
 
+mod deciding;
 mod explainer;
 mod extent;
 mod headings;
@@ -41,19 +41,19 @@ mod names;
 mod names_printed;
 mod row_hints;
 mod subtrees;
-mod told;
 mod users;
 mod viewer;
 mod who;
 mod words;
 
+pub use deciding::Deciding;
 pub use explainer::Explainer;
 pub use extent::Extent;
 pub use hint::{Hint, Oddity};
 pub use laws::{name_is_read_back, no_other_sees};
 pub use lines::hint_text;
-pub use names_printed::{name_text, put_name, put_quoted, quoted_text};
+pub use names_printed::{context_text, name_text, quoted_text};
 pub use row_hints::hints;
-pub use viewer::{Seen, sees};
-pub use who::{WhoSeesQuery, who_sees};
+pub use viewer::{Seen, any_includes, sees};
+pub use who::{AllowedAsker, WhoSeesQuery, who_sees};
 pub use words::{access_word, view_word};

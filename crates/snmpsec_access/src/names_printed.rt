@@ -5,7 +5,7 @@ ghost use Rattle.std.specs.List.{list_all};
 ghost use Rattle.snmpsec_access.specs.NameText as spec;
 ghost use Rattle.snmpsec_access.specs.NameText.{digit, escaped, escaped_octet, four_digits, inside_quotes};
 ghost use Rattle.snmpsec_access.specs.NameText.{is_graphic, is_mark};
-ghost use Rattle.snmpsec_access.specs.NameText.{context_text, is_own_text, is_printable, name_text, quoted, two_digits};
+ghost use Rattle.snmpsec_access.specs.NameText.{is_own_text, is_printable, name_text, quoted, two_digits};
 
 use std::alloc::{AllocError, Global};
 
@@ -121,7 +121,7 @@ fn put_inside(out: &mut Vec<u8>, name: &[u8]) -> Result<(), AllocError>
 
 /// Appends the name between quotes, as a basic string of TOML in ASCII. An octet of a name that isn't UTF-8 is `\x` and
 /// two digits, which TOML doesn't have.
-pub fn put_quoted(out: &mut Vec<u8>, name: &[u8]) -> Result<(), AllocError>
+pub(crate) fn put_quoted(out: &mut Vec<u8>, name: &[u8]) -> Result<(), AllocError>
     ensures { OnOk result (out.new.items ≡ out.old.items ++ quoted name.now) }
 {
     out.extend_from_slice(b"\"")?;
@@ -131,7 +131,7 @@ pub fn put_quoted(out: &mut Vec<u8>, name: &[u8]) -> Result<(), AllocError>
 
 /// Appends the name of a user, a group, a view or a context as all commands print it: as it is, or between quotes if it
 /// is empty, `@`, or has an octet outside of 21 to 7E, a quote or a backslash.
-pub fn put_name(out: &mut Vec<u8>, name: &[u8]) -> Result<(), AllocError>
+fn put_name(out: &mut Vec<u8>, name: &[u8]) -> Result<(), AllocError>
     ensures { OnOk result (out.new.items ≡ out.old.items ++ name_text name.now) }
 {
     if is_own_text(name) {
@@ -139,16 +139,6 @@ pub fn put_name(out: &mut Vec<u8>, name: &[u8]) -> Result<(), AllocError>
     } else {
         put_quoted(out, name)
     }
-}
-
-/// Appends the name of a context: `@` if it is empty.
-pub(crate) fn put_context(out: &mut Vec<u8>, name: &[u8]) -> Result<(), AllocError>
-    ensures { OnOk result (out.new.items ≡ out.old.items ++ context_text name.now) }
-{
-    if name.is_empty() {
-        return out.extend_from_slice(b"@");
-    }
-    put_name(out, name)
 }
 
 /// Returns the text of a name (`put_name`).
@@ -159,6 +149,16 @@ pub fn name_text(alloc: Global, name: &[u8]) -> Result<String, AllocError>
     let mut text = Vec::new(alloc);
     put_name(&mut text, name)?;
     Ok(text_of(text))
+}
+
+/// Returns the text of the name of a context: `@` if it is empty.
+pub fn context_text(alloc: Global, name: &[u8]) -> Result<String, AllocError>
+    ensures { IfOk result (λ text. string_bytes text ≡ spec.context_text name.now) }
+{
+    if name.is_empty() {
+        return String::from_str(alloc, "@");
+    }
+    name_text(alloc, name)
 }
 
 /// Returns the name between quotes (`put_quoted`).

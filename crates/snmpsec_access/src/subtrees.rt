@@ -122,7 +122,7 @@ fn needed_of_exact<'a>(
     ensures { IfOk result (λ kept. AreLeft (rows_at rows.now) (rows_at kept.items)) }
 {
     let mut kept = Vec::new(alloc);
-    'rows: for row in rows {
+    for row in rows {
         keep_needed(&mut kept, row)?;
     }
     Ok(kept)

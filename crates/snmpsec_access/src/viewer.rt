@@ -1,29 +1,24 @@
 //! What a name may see, for each view, at each level and in each context.
 
-ghost use Rattle.std.specs.Prelude.{◌≡◌, ◌∷◌, ◌++◌, ◌||◌, [], map, OnOk, IfOk};
-ghost use Rattle.std.specs.List.{flat_map, list_any};
+ghost use Rattle.std.specs.Prelude.{◌≡◌, ◌∷◌, [], map, OnOk, IfOk};
+ghost use Rattle.std.specs.List.{list_any};
 ghost use Rattle.vacm_core.specs.Tables.{tables_of, HaveSameRows};
 ghost use Rattle.vacm_core.specs.Distinct.{HasOneRowEach};
-ghost use Rattle.snmpsec_access.specs.Seen as spec;
-ghost use Rattle.snmpsec_access.specs.Seen.{by_lines, line_of, pattern_text, head, seen_line, answer_line};
-ghost use Rattle.snmpsec_access.specs.Seen.{decision_text, includes, viewer, of_level, TellsSeen};
-ghost use Rattle.snmpsec_access.specs.Rising.{rows_at, asker_of, decision_of, SeesOn};
+ghost use Rattle.snmpsec_access.specs.Seen.{AreSeen, includes, of_level, viewer};
+ghost use Rattle.snmpsec_access.specs.Rising.{SeesOn, asker_of, decided_of, decision_of};
 
-use crate::names_printed::put_context;
-use crate::told::{Told, told_of};
-use crate::words::{access_word, view_word};
+use crate::deciding::{Deciding, deciding_of};
 use snmp_ber::Level;
-use snmpsec_config::level_word;
 use std::alloc::{AllocError, Global};
-use vacm_core::{Access, Asking, FamilyRow, Mask, Rows, Vacm, ViewType};
+use vacm_core::{Asking, Rows, Vacm, ViewType};
 
-/// What a name may see, as lines.
-#[derive(Debug, PartialEq, Eq, Drop)]
-pub struct Seen {
-    /// The lines.
-    pub text: Vec<u8>,
-    /// Whether one of them includes something.
-    pub included: bool,
+/// What a name may see for a view, at a level and in a context.
+#[derive(Drop)]
+pub struct Seen<'a> {
+    pub level: Level,
+    pub view: ViewType,
+    pub context: &'a [u8],
+    pub deciding: Deciding<'a>,
 }
 
 /// A security name under a security model, and over what it is asked: the tables, and the rows that they are made of.
@@ -35,182 +30,42 @@ pub(crate) struct Viewer<'a> {
     pub(crate) name: &'a [u8],
 }
 
-/// The dot before the arc of this number.
-fn dot_before(k: usize) -> &'static str
-    ensures { result.now ≡ spec.dot_before k }
+/// A row of one of them includes what fits it.
+pub fn any_includes(seen: &[Seen<'_>]) -> bool
+    ensures { result ≡ list_any (λ s. includes (decision_of s.deciding)) seen.now }
 {
-    if k == 0 { "" } else { "." }
+    seen.iter().any(|seen| seen.deciding.includes())
 }
 
-/// Appends the arc of this number, or `*` where the mask leaves it free.
-fn put_arc(
+/// Appends what is seen in a context.
+fn put_asked<'a>(
     alloc: Global,
-    out: &mut Vec<u8>,
-    mask: &Mask,
-    k: usize,
-    arc: u32,
-) -> Result<(), AllocError>
-    ensures { OnOk result (out.new.items ≡ out.old.items ++ spec.arc_at mask.now k arc) }
-{
-    out.extend_from_slice(dot_before(k).as_bytes())?;
-    if !mask.compares(k) {
-        return out.extend_from_slice(b"*");
-    }
-    let text = format!(in alloc; "{arc}")?;
-    out.extend_from_slice(text.as_bytes())
-}
-
-/// Appends the subtree of the row.
-fn put_subtree(alloc: Global, out: &mut Vec<u8>, row: &FamilyRow) -> Result<(), AllocError>
-    ensures { OnOk result (out.new.items
-        ≡ out.old.items ++ pattern_text (line_of row.now).pattern) }
-{
-    for (k, arc) in row.subtree.as_slice().iter().enumerate() {
-        put_arc(alloc, out, &row.mask, k, *arc)?;
-    }
-    Ok(())
-}
-
-/// Appends what each line of the question begins with.
-fn put_head(alloc: Global, out: &mut Vec<u8>, asking: &Asking<'_>) -> Result<(), AllocError>
-    ensures { OnOk result (out.new.items ≡ out.old.items ++ head (asker_of asking.now)) }
-{
-    let (level, view) = (level_word(asking.level), view_word(asking.view));
-    let words = format!(in alloc; "{level} {view} ")?;
-    out.extend_from_slice(words.as_bytes())?;
-    put_context(out, asking.context)?;
-    out.extend_from_slice(b" ")
-}
-
-/// Appends the line of an answer.
-fn put_answer(
-    alloc: Global,
-    out: &mut Vec<u8>,
-    asking: &Asking<'_>,
-    answer: Access,
-) -> Result<(), AllocError>
-    ensures { OnOk result (out.new.items
-        ≡ out.old.items ++ answer_line (asker_of asking.now) answer) }
-{
-    put_head(alloc, out, asking)?;
-    out.extend_from_slice(access_word(answer).as_bytes())?;
-    out.extend_from_slice(b"\n")
-}
-
-/// Whether the row includes what fits it, as a word.
-fn sign(include: bool) -> &'static str
-    ensures { result.now ≡ spec.sign include }
-{
-    if include { "+ " } else { "- " }
-}
-
-/// Appends the line of a row.
-fn put_row(
-    alloc: Global,
-    out: &mut Vec<u8>,
-    asking: &Asking<'_>,
-    row: &FamilyRow,
-) -> Result<(), AllocError>
-    ensures { OnOk result (out.new.items
-        ≡ out.old.items ++ seen_line (asker_of asking.now) (line_of row.now)) }
-{
-    put_head(alloc, out, asking)?;
-    out.extend_from_slice(sign(row.include).as_bytes())?;
-    put_subtree(alloc, out, row)?;
-    out.extend_from_slice(b"\n")
-}
-
-/// Appends the lines of the rows.
-fn put_rows(
-    alloc: Global,
-    out: &mut Vec<u8>,
-    asking: &Asking<'_>,
-    rows: &[&FamilyRow],
-) -> Result<(), AllocError>
-    ensures { OnOk result
-        (out.new.items ≡ out.old.items
-        ++ flat_map (seen_line (asker_of asking.now)) (map line_of (rows_at rows.now))) }
-{
-    for row in rows {
-        put_row(alloc, out, asking, row)?;
-    }
-    Ok(())
-}
-
-/// Appends the lines of the rows, or that of notInView where there is none.
-fn put_decided(
-    alloc: Global,
-    out: &mut Vec<u8>,
-    asking: &Asking<'_>,
-    rows: &[&FamilyRow],
-) -> Result<(), AllocError>
-    ensures { OnOk result
-        (out.new.items ≡ out.old.items
-        ++ decision_text (asker_of asking.now) (by_lines (map line_of (rows_at rows.now)))) }
-{
-    if rows.is_empty() {
-        return put_answer(alloc, out, asking, Access::NotInView);
-    }
-    put_rows(alloc, out, asking, rows)
-}
-
-/// One of the rows includes what fits it.
-fn any_includes(rows: &[&FamilyRow]) -> bool
-    ensures { result ≡ list_any (λ row. row.now.include) rows.now }
-{
-    rows.iter().any(|row| row.include)
-}
-
-/// Appends the answer to the question.
-fn put_told(
-    alloc: Global,
-    out: &mut Vec<u8>,
-    asking: &Asking<'_>,
-    told: &Told<'_>,
-) -> Result<(), AllocError>
-    ensures { OnOk result
-        (out.new.items ≡ out.old.items ++ decision_text (asker_of asking.now)
-        (decision_of told.now)) }
-{
-    match told {
-        Told::Refusal(answer) => put_answer(alloc, out, asking, *answer),
-        Told::Rows(rows) => put_decided(alloc, out, asking, rows),
-    }
-}
-
-/// The answer includes something.
-fn told_includes(told: &Told<'_>) -> bool
-    ensures { result ≡ includes (decision_of told.now) }
-{
-    match told {
-        Told::Refusal(_) => false,
-        Told::Rows(rows) => any_includes(rows),
-    }
-}
-
-/// Appends the lines of a context.
-fn put_asked(
-    alloc: Global,
-    out: &mut Seen,
-    who: &Viewer<'_>,
-    asking: &Asking<'_>,
+    out: &mut Vec<Seen<'a>>,
+    who: &Viewer<'a>,
+    asking: &Asking<'a>,
 ) -> Result<(), AllocError>
     requires one_each { HasOneRowEach (tables_of who.now.rows.now) }
     requires same_rows { HaveSameRows (tables_of who.now.rows.now) who.now.access.now }
     ensures { OnOk result (SeesOn (tables_of who.now.rows.now)
-        (asker_of asking.now ∷ []) out.old out.new) }
+        (asker_of asking.now ∷ [])
+        (map (decided_of asking.now.model asking.now.name.now) out.old.items)
+        (map (decided_of asking.now.model asking.now.name.now) out.new.items)) }
 {
-    let told = told_of(alloc, who.access, who.rows, asking)?;
-    put_told(alloc, &mut out.text, asking, &told)?;
-    out.included = out.included || told_includes(&told);
+    let deciding = deciding_of(alloc, who.access, who.rows, asking)?;
+    out.push(Seen {
+        level: asking.level,
+        view: asking.view,
+        context: asking.context,
+        deciding,
+    })?;
     Ok(())
 }
 
-/// Appends the lines of the contexts.
-fn put_view(
+/// Appends what is seen in the contexts.
+fn put_view<'a>(
     alloc: Global,
-    out: &mut Seen,
-    who: &Viewer<'_>,
+    out: &mut Vec<Seen<'a>>,
+    who: &Viewer<'a>,
     level: Level,
     view: ViewType,
 ) -> Result<(), AllocError>
@@ -219,9 +74,10 @@ fn put_view(
     ensures { OnOk result
         (SeesOn (tables_of who.now.rows.now)
         (map (viewer who.now.model who.now.name.now level view) who.now.rows.now.contexts.items)
-        out.old out.new) }
+        (map (decided_of who.now.model who.now.name.now) out.old.items)
+        (map (decided_of who.now.model who.now.name.now) out.new.items)) }
 {
-    'contexts: for context in &who.rows.contexts {
+    for context in &who.rows.contexts {
         let asking = Asking {
             model: who.model,
             name: who.name,
@@ -235,11 +91,11 @@ fn put_view(
     Ok(())
 }
 
-/// Appends the lines of the views.
-fn put_level(
+/// Appends what is seen for the views.
+fn put_level<'a>(
     alloc: Global,
-    out: &mut Seen,
-    who: &Viewer<'_>,
+    out: &mut Vec<Seen<'a>>,
+    who: &Viewer<'a>,
     level: Level,
 ) -> Result<(), AllocError>
     requires one_each { HasOneRowEach (tables_of who.now.rows.now) }
@@ -247,7 +103,8 @@ fn put_level(
     ensures { OnOk result
         (SeesOn (tables_of who.now.rows.now)
         (of_level who.now.rows.now.contexts.items who.now.model who.now.name.now level)
-        out.old out.new) }
+        (map (decided_of who.now.model who.now.name.now) out.old.items)
+        (map (decided_of who.now.model who.now.name.now) out.new.items)) }
 {
     put_view(alloc, out, who, level, ViewType::Read)?;
     put_view(alloc, out, who, level, ViewType::Write)?;
@@ -257,26 +114,23 @@ fn put_level(
 /// What the security name may see under the model over tables that are made of the rows, by the level, then
 /// the view, then the context row.
 ///
-/// For each of them stands either a line `LEVEL VIEW CONTEXT ANSWER`, where each variable gets that answer,
-/// or lines `LEVEL VIEW CONTEXT + SUBTREE` and `LEVEL VIEW CONTEXT - SUBTREE`, an arc that may be any as `*`:
-/// the last that fits a variable says whether isAccessAllowed answers accessAllowed (`+`) or notInView (`-`),
-/// and notInView where none fits (RFC 3415, section 3). They are the rows of the view from the least up, by
-/// the number of arcs and then by the arcs, without those that change no answer; of a view with a wildcard
-/// they are all. The error is out of memory.
+/// Of each it is said which answer each variable gets, or which rows decide. They are the rows of the view from the
+/// least up, by the number of arcs and then by the arcs, without those that change no answer; of a view with a
+/// wildcard they are all. The error is out of memory.
 ///
 /// For c contexts 9c questions are asked. Each goes over the family rows once. It sorts those of its view, and
 /// for each of them looks up at most as many beginnings of its subtree as that has arcs.
-pub fn sees(
+pub fn sees<'a>(
     alloc: Global,
-    access: &Vacm,
-    rows: &Rows,
+    access: &'a Vacm,
+    rows: &'a Rows,
     model: u32,
-    name: &[u8],
-) -> Result<Seen, AllocError>
+    name: &'a [u8],
+) -> Result<Vec<Seen<'a>>, AllocError>
     requires one_each { HasOneRowEach (tables_of rows.now) }
     requires same_rows { HaveSameRows (tables_of rows.now) access.now }
-    ensures { IfOk result (λ seen. TellsSeen
-        (tables_of rows.now) model name.now seen.text.items seen.included) }
+    ensures { IfOk result (λ seen. AreSeen (tables_of rows.now) model name.now
+        (map (decided_of model name.now) seen.items)) }
 {
     let viewer = Viewer {
         access,
@@ -284,10 +138,7 @@ pub fn sees(
         model,
         name,
     };
-    let mut out = Seen {
-        text: Vec::new(alloc),
-        included: false,
-    };
+    let mut out = Vec::new(alloc);
     put_level(alloc, &mut out, &viewer, Level::NoAuthNoPriv)?;
     put_level(alloc, &mut out, &viewer, Level::AuthNoPriv)?;
     put_level(alloc, &mut out, &viewer, Level::AuthPriv)?;

@@ -1,22 +1,19 @@
 //! Who may see a variable, or some name at or below it.
 
-ghost use Rattle.std.specs.Prelude.{◌≡◌, ◌∷◌, ◌++◌, [], map, OnOk, IfOk, MatchBool};
+ghost use Rattle.std.specs.Prelude.{◌≡◌, ◌∷◌, [], map, OnOk, IfOk, MatchBool};
 ghost use Rattle.vacm_core.specs.Allowed.{Allowed};
 ghost use Rattle.vacm_core.specs.Tables.{tables_of};
 ghost use Rattle.vacm_core.specs.declared.access.Access.TheVariants.{AccessAllowed};
-ghost use Rattle.snmpsec_access.specs.Askers.{asker, asker_line, of_group, of_view};
+ghost use Rattle.snmpsec_access.specs.Askers.{asker, of_group, of_view};
 ghost use Rattle.snmpsec_access.specs.Extent.{SeesWanted, SeesBelow};
 ghost use Rattle.snmpsec_access.specs.declared.extent.Extent.TheVariants.{Below};
 ghost use Rattle.snmpsec_access.specs.UserPlaces.{AreFirstPlaces};
-ghost use Rattle.snmpsec_access.specs.WhoSees.{IsWanted, IsReady, SeesIt, GoesOn, TellsWho};
+ghost use Rattle.snmpsec_access.specs.WhoSees.{AreSeeing, IsWanted, IsReady, SeesIt, GoesOn, asker_of};
 
 use crate::extent::{Extent, sees_below};
-use crate::names_printed::{put_context, put_name};
 use crate::users::{first_places, has_user_at};
-use crate::words::view_word;
 use snmp_ber::{Level, Oid};
 use snmp_message::USER_BASED;
-use snmpsec_config::level_word;
 use std::alloc::{AllocError, Global};
 use std::collections::BTreeMap;
 use usm_users::UserRow;
@@ -35,6 +32,16 @@ pub struct WhoSeesQuery<'a> {
     /// Whether the variable is asked for, or names at or below it.
     pub extent: Extent,
     pub variable: &'a Oid,
+}
+
+/// Who asks, for which view and in which context.
+#[derive(Clone, Copy)]
+pub struct AllowedAsker<'a> {
+    pub model: u32,
+    pub name: &'a [u8],
+    pub level: Level,
+    pub view: ViewType,
+    pub context: &'a [u8],
 }
 
 /// The name of the group row is wanted at this level.
@@ -125,60 +132,42 @@ fn sees_wanted(
     }
 }
 
-/// Appends the line of who asks.
-fn put_line(
-    alloc: Global,
-    out: &mut Vec<u8>,
+/// Appends who asks, where what is asked for is answered accessAllowed.
+fn put_allowed<'a>(
+    out: &mut Vec<AllowedAsker<'a>>,
+    wanted: &WhoSeesQuery<'a>,
     view: ViewType,
-    group: &GroupRow,
+    group: &'a GroupRow,
     level: Level,
-    context: &ContextRow,
-) -> Result<(), AllocError>
-    ensures { OnOk result (out.new.items
-        ≡ out.old.items ++ asker_line (asker view group.now level context.now)) }
-{
-    let model = group.model;
-    let begin = format!(in alloc; "{model} ")?;
-    out.extend_from_slice(begin.as_bytes())?;
-    put_name(out, group.name.as_slice())?;
-    let (level, view) = (level_word(level), view_word(view));
-    let words = format!(in alloc; " {level} {view} ")?;
-    out.extend_from_slice(words.as_bytes())?;
-    put_context(out, context.name.as_slice())?;
-    out.extend_from_slice(b"\n")
-}
-
-/// Appends the line, where what is asked for is answered accessAllowed.
-fn put_allowed(
-    alloc: Global,
-    out: &mut Vec<u8>,
-    wanted: &WhoSeesQuery<'_>,
-    view: ViewType,
-    group: &GroupRow,
-    level: Level,
-    context: &ContextRow,
+    context: &'a ContextRow,
 ) -> Result<(), AllocError>
     requires ready { IsReady wanted.now }
     requires wanted { IsWanted wanted.now.only_users wanted.now.users.now
         group.now.model group.now.name level }
     ensures { OnOk result
         (GoesOn (SeesIt wanted.now) (asker view group.now level context.now ∷ [])
-        out.old.items out.new.items) }
+        (map asker_of out.old.items) (map asker_of out.new.items)) }
 {
-    if sees_wanted(wanted, view, group, level, context) {
-        return put_line(alloc, out, view, group, level, context);
+    if !sees_wanted(wanted, view, group, level, context) {
+        return Ok(());
     }
+    out.push(AllowedAsker {
+        model: group.model,
+        name: group.name.as_slice(),
+        level,
+        view,
+        context: context.name.as_slice(),
+    })?;
     Ok(())
 }
 
-/// Appends the lines of the contexts.
-fn put_level(
-    alloc: Global,
-    out: &mut Vec<u8>,
-    wanted: &WhoSeesQuery<'_>,
+/// Appends those of the contexts.
+fn put_level<'a>(
+    out: &mut Vec<AllowedAsker<'a>>,
+    wanted: &WhoSeesQuery<'a>,
     places: &BTreeMap<&[u8], usize>,
     view: ViewType,
-    group: &GroupRow,
+    group: &'a GroupRow,
     level: Level,
 ) -> Result<(), AllocError>
     requires ready { IsReady wanted.now }
@@ -186,42 +175,41 @@ fn put_level(
     ensures { OnOk result
         (GoesOn (SeesIt wanted.now)
         (map (asker view group.now level) wanted.now.rows.now.contexts.items)
-        out.old.items out.new.items) }
+        (map asker_of out.old.items) (map asker_of out.new.items)) }
 {
     if !is_wanted(wanted, places, group, level) {
         return Ok(());
     }
-    'contexts: for context in &wanted.rows.contexts {
-        put_allowed(alloc, out, wanted, view, group, level, context)?;
+    for context in &wanted.rows.contexts {
+        put_allowed(out, wanted, view, group, level, context)?;
     }
     Ok(())
 }
 
-/// Appends the lines of the levels.
-fn put_group(
-    alloc: Global,
-    out: &mut Vec<u8>,
-    wanted: &WhoSeesQuery<'_>,
+/// Appends those of the levels.
+fn put_group<'a>(
+    out: &mut Vec<AllowedAsker<'a>>,
+    wanted: &WhoSeesQuery<'a>,
     places: &BTreeMap<&[u8], usize>,
     view: ViewType,
-    group: &GroupRow,
+    group: &'a GroupRow,
 ) -> Result<(), AllocError>
     requires ready { IsReady wanted.now }
     requires places { AreFirstPlaces wanted.now.users.now places.now }
     ensures { OnOk result
         (GoesOn (SeesIt wanted.now)
-        (of_group wanted.now.rows.now.contexts.items view group.now) out.old.items out.new.items) }
+        (of_group wanted.now.rows.now.contexts.items view group.now)
+        (map asker_of out.old.items) (map asker_of out.new.items)) }
 {
-    put_level(alloc, out, wanted, places, view, group, Level::NoAuthNoPriv)?;
-    put_level(alloc, out, wanted, places, view, group, Level::AuthNoPriv)?;
-    put_level(alloc, out, wanted, places, view, group, Level::AuthPriv)
+    put_level(out, wanted, places, view, group, Level::NoAuthNoPriv)?;
+    put_level(out, wanted, places, view, group, Level::AuthNoPriv)?;
+    put_level(out, wanted, places, view, group, Level::AuthPriv)
 }
 
-/// Appends the lines of the group rows.
-fn put_view(
-    alloc: Global,
-    out: &mut Vec<u8>,
-    wanted: &WhoSeesQuery<'_>,
+/// Appends those of the group rows.
+fn put_view<'a>(
+    out: &mut Vec<AllowedAsker<'a>>,
+    wanted: &WhoSeesQuery<'a>,
     places: &BTreeMap<&[u8], usize>,
     view: ViewType,
 ) -> Result<(), AllocError>
@@ -229,36 +217,36 @@ fn put_view(
     requires places { AreFirstPlaces wanted.now.users.now places.now }
     ensures { OnOk result
         (GoesOn (SeesIt wanted.now) (of_view (tables_of wanted.now.rows.now) view)
-        out.old.items out.new.items) }
+        (map asker_of out.old.items) (map asker_of out.new.items)) }
 {
-    'groups: for group in &wanted.rows.groups {
-        put_group(alloc, out, wanted, places, view, group)?;
+    for group in &wanted.rows.groups {
+        put_group(out, wanted, places, view, group)?;
     }
     Ok(())
 }
 
-/// Who may see the variable, or some name at or below it, as it is asked: a line `MODEL NAME LEVEL VIEW CONTEXT` for
-/// each question of it that is answered accessAllowed, by the view, then the group row, then the level, then the
-/// context row, rows by their positions.
+/// Who may see the variable, or some name at or below it, as it is asked: who asks each question of it that is
+/// answered accessAllowed, by the view, then the group row, then the level, then the context row, rows by their
+/// positions.
 ///
-/// There is no line but of the names that group rows have, in the contexts that there are, since each other
+/// No others are asked for than the names that group rows have, in the contexts that there are, since each other
 /// question is answered noGroupName or noSuchContext. For v views, g group rows and c contexts 3vgc questions
 /// are asked. Each looks its name up among the users' once. The error is out of memory.
-pub fn who_sees(
+pub fn who_sees<'a>(
     alloc: Global,
-    wanted: &WhoSeesQuery<'_>,
+    wanted: &WhoSeesQuery<'a>,
     views: &[ViewType],
-) -> Result<Vec<u8>, AllocError>
+) -> Result<Vec<AllowedAsker<'a>>, AllocError>
     requires { IsReady wanted.now }
     ensures { IfOk result
-        (λ text. TellsWho (tables_of wanted.now.rows.now) views.now
+        (λ seeing. AreSeeing (tables_of wanted.now.rows.now) views.now
         wanted.now.only_users wanted.now.users.now wanted.now.extent
-        wanted.now.variable.now text.items) }
+        wanted.now.variable.now (map asker_of seeing.items)) }
 {
     let places = first_places(alloc, wanted.users)?;
     let mut out = Vec::new(alloc);
-    'views: for view in views {
-        put_view(alloc, &mut out, wanted, &places, *view)?;
+    for view in views {
+        put_view(&mut out, wanted, &places, *view)?;
     }
     Ok(out)
 }

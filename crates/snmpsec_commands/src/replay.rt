@@ -15,16 +15,13 @@ use snmpsec_output::{Output, refused_clocks};
 use snmpsec_replay::{Printing, ReplayFault, replay_as};
 use std::alloc::{AllocError, Global};
 use std::io::{BufRead, Write};
-use thiserror::Error;
 
 /// Why no manager begins.
-#[derive(Debug, Drop, Error)]
+#[derive(Drop)]
 pub(crate) enum NoManager {
     /// A text is refused, by this line and what explains it.
-    #[error("a text is refused")]
     Refused(Output),
     /// A growth of memory was refused.
-    #[error("out of memory")]
     OutOfMemory,
 }
 

@@ -1,12 +1,9 @@
 pub mod Merges
+pub mod Printed
 pub mod Shows
 pub mod Communities
 pub mod TomlLines
 pub mod Checks
-pub mod Opens
-pub mod Whos
-pub mod Seens
 pub mod Openings
 pub mod Determined
-pub mod NamedLines
 pub mod DottedParts

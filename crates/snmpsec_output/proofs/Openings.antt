@@ -2,17 +2,15 @@
 use Rattle.usm_core.specs.Table.{refused, refusal_answer}
 use Rattle.snmp_message.specs.declared.refusal.Refusal.TheVariants.{DecryptionError, OutOfMemory}
 use Rattle.snmp_message.specs.declared.refusal.Refusal.{Refusal}
-use Rattle.std.proofs.Common.{ℕ, Bool, List, refl, Option, Some, None, sym, subst}
-use Rattle.std.specs.Prelude.{◌≢◌, Result, Ok, Err, IfOk, IfSome, IsSomeAnd}
+use Rattle.std.proofs.Common.{ℕ, Bool, List, Option, Some, None, sym, subst}
+use Rattle.std.specs.Prelude.{◌≢◌, Ok, Err, IfSome, IsSomeAnd}
 use Rattle.usm_users.specs.User.{User}
 use Rattle.usm_core.specs.Table.{holds, fails, gives, refuses}
 use Rattle.usm_core.specs.Verified.{Verified, Verifies, manager}
 use Rattle.snmp_incoming.specs.Outcome.{Given, ReadsText}
 use Rattle.snmp_incoming.specs.Answers.{IsOpening}
 use Rattle.snmp_incoming.proofs.Rows.{is_in_table}
-use Rattle.snmp_incoming.specs.Texts.{FrontOf, PduOf}
-use Rattle.snmpsec_output.specs.Opening.{opened_lines, TellsWith, Opens, OpensWith}
-use Rattle.snmpsec_output.specs.Names.{IsNamed}
+use Rattle.snmpsec_output.specs.Opening.{TellsWith, Opens, OpensWith}
 
 -- refused down to the digest
 pub opens_refused : (names : Bool) (users : List User) (w : List ℕ) (r : Refusal) → r ≢ OutOfMemory → Verifies manager users w (Err r) → IfSome (refusal_answer r) (OpensWith names users w)
@@ -35,8 +33,3 @@ module _ (names : Bool) (users : List User) (w : List ℕ) (v : Verified) (rows 
     pub opens_read : (given : Given) (lines : List ℕ) → ReadsText v text (Ok given) → TellsWith names v given.text lines → OpensWith names users w (Ok lines)
     unfolding Opens
     opens_read given lines read tells = (tells.0, gives v rows (holds opening.0 (gives given (text, opening.1, read) tells.1)), tells.2)
-
-pub if_told : {A E : Type 0} (names : Bool) (r : Result A E) (out : A → List ℕ) (v : Verified) {text : List ℕ} (s : FrontOf text) (p : PduOf s.contexts.pdu)
-    → IfOk r (λ x. IsNamed names (opened_lines v s.contexts p.pdu) (out x)) → IfOk r (λ x. TellsWith names v text (out x))
-if_told names (Ok x) out v s p lines = (opened_lines v s.contexts p.pdu, (s, p, refl), lines)
-if_told names (Err e) out v s p lines = tt

@@ -1,13 +1,13 @@
 -- The line for a text that isn't TOML is printed for no other refusal of a configuration.
-use Rattle.std.proofs.Common.{◌≡◌, ◌++◌, ℕ, List, Result, Ok, Err, None, ap, arith, get_or}
-use Rattle.std.specs.Prelude.{IfOk, IsUtf8, codes}
+use Rattle.std.proofs.Common.{◌≡◌, ◌++◌, ℕ, List, None, ap, arith, get_or}
+use Rattle.std.specs.Prelude.{IsUtf8, codes}
 use Rattle.toml.specs.Parse.{parse_document}
 use Rattle.snmpsec_config.specs.declared.fault.ConfigFault.{ConfigFault}
 use Rattle.snmpsec_config.specs.declared.fault.ConfigFault.TheVariants as faults
 use Rattle.snmpsec_config.specs.declared.table.ConfigTable.TheVariants as tables
 use Rattle.snmpsec_config.specs.Refusals.{Refuses, refusal_line}
 
-toml_cause : (config : List ℕ) (fault : ConfigFault) → Refuses config fault → refusal_line fault ++ codes "\n" ≡ codes "refused config toml\n" → IsUtf8 config → parse_document config ≡ None
+pub toml_cause : (config : List ℕ) (fault : ConfigFault) → Refuses config fault → refusal_line fault ++ codes "\n" ≡ codes "refused config toml\n" → IsUtf8 config → parse_document config ≡ None
 toml_cause config (faults.Toml fault) cause e utf8 = (cause utf8).1
 toml_cause config (faults.Nested line column) cause e utf8 = let bad : 110 ≡ 116 = ap (λ (t : List ℕ). get_or t 15 0) e in absurd (omega (arith, bad))
 toml_cause config (faults.Top key) cause e utf8 = let bad : 112 ≡ 109 = ap (λ (t : List ℕ). get_or t 17 0) e in absurd (omega (arith, bad))
@@ -22,8 +22,3 @@ toml_cause config (faults.Row tables.Group position wrong) cause e utf8 = let ba
 toml_cause config (faults.Row tables.Access position wrong) cause e utf8 = let bad : 97 ≡ 116 = ap (λ (t : List ℕ). get_or t 15 0) e in absurd (omega (arith, bad))
 toml_cause config (faults.Row tables.Family position wrong) cause e utf8 = let bad : 102 ≡ 116 = ap (λ (t : List ℕ). get_or t 15 0) e in absurd (omega (arith, bad))
 toml_cause config faults.OutOfMemory cause e utf8 = let bad : 111 ≡ 114 = ap (λ (t : List ℕ). get_or t 0 0) e in absurd (omega (arith, bad))
-
-pub if_toml : {A E : Type 0} (r : Result A E) (out : A → List ℕ) (config : List ℕ) (fault : ConfigFault) → Refuses config fault
-    → IfOk r (λ x. out x ≡ refusal_line fault ++ codes "\n") → IfOk r (λ x. out x ≡ codes "refused config toml\n" → IsUtf8 config → parse_document config ≡ None)
-if_toml (Ok x) out config fault refuses o = λ e utf8. toml_cause config fault refuses (rw o at e) utf8
-if_toml (Err x) out config fault refuses o = tt

@@ -1,33 +1,23 @@
--- What `snmpsec check-config` prints.
+-- What `snmpsec check-config` makes of a configuration.
 --
--- `ChecksConfig config printed`. What `check-config` prints: the numbers of those rows; or the refusal, and
--- beside it what is wrong (`IsWhy`). `ChecksHinted`: the same, and beside the numbers of rows a line for
--- each hint (`hints_of`, `lines_of`).
-use Rattle.std.specs.Prelude.{◌≡◌, ◌⊎◌, ℕ, List, [], ◌++◌, length, codes, decimal}
+-- `ChecksConfig config printed`. It stands for rows, and the status is 0; or its refusal is printed, and beside it
+-- what is wrong (`IsWhy`), with status 1. `ChecksHinted`: the same where hints are wanted (`hints_of`). In which words
+-- rows are counted and hints given isn't defined.
+use Rattle.std.specs.Prelude.{◌≡◌, ◌≢◌, ◌⊎◌, ℕ, List, [], ◌++◌, codes}
 use Rattle.usm_users.specs.declared.load.UserRow.{UserRow}
 use Rattle.vacm_core.specs.Tables.{Tables}
 use Rattle.snmpsec_config.specs.declared.fault.ConfigFault.{ConfigFault}
 use Rattle.snmpsec_config.specs.Refusals.{SaysSound, RefusesText, refusal_line}
 use Rattle.snmpsec_config.specs.Told.{IsWhy}
 use Rattle.snmpsec_access.specs.Hints.{hints_of}
-use Rattle.snmpsec_access.specs.Lines.{lines_of}
 use Rattle.snmpsec_output.specs.Questions.{Printed}
 
--- a line for each table, with the number of its rows
-abbrev pub counts_text : List UserRow → Tables → List ℕ
-counts_text users rows =
-    codes "user " ++ (decimal (length users)
-    ++ (codes "\ncontext " ++ (decimal (length rows.contexts)
-    ++ (codes "\ngroup " ++ (decimal (length rows.groups)
-    ++ (codes "\naccess " ++ (decimal (length rows.access)
-    ++ (codes "\nfamily " ++ (decimal (length rows.families) ++ codes "\n")))))))))
-
--- The numbers of the rows that the configuration stands for are printed.
+-- The configuration stands for rows.
 pub record Counts (config : List ℕ) (printed : Printed) : Type 0 where
   pub users : List UserRow
   pub rows : Tables
   pub says : SaysSound config users rows
-  pub out : printed.out ≡ counts_text users rows
+  pub some : printed.out ≢ []
   pub err : printed.err ≡ []
   pub status : printed.status ≡ 0
 
@@ -46,14 +36,13 @@ ChecksConfig config printed = Counts config printed ⊎ Explains config printed
 
 -- ---- where hints are wanted
 
--- The numbers of the rows that the configuration stands for are printed, and on standard error a line for
--- each hint of these rows.
+-- The configuration stands for rows, and nothing is printed on standard error if there is no hint of them.
 pub record CountsHinted (config : List ℕ) (printed : Printed) : Type 0 where
   pub users : List UserRow
   pub rows : Tables
   pub says : SaysSound config users rows
-  pub out : printed.out ≡ counts_text users rows
-  pub err : printed.err ≡ lines_of config users rows (hints_of users rows)
+  pub some : printed.out ≢ []
+  pub err : hints_of users rows ≡ [] → printed.err ≡ []
   pub status : printed.status ≡ 0
 
 abbrev pub ChecksHinted : List ℕ → Printed → Type 0

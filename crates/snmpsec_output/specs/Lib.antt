@@ -2,7 +2,6 @@ pub mod Refusals
 pub mod Show
 pub mod Merge
 pub mod Words
-pub mod Steps
 pub mod Questions
 pub mod CheckConfig
 pub mod Open
@@ -11,6 +10,4 @@ pub mod Sees
 pub mod Lines
 pub mod Opening
 pub mod Variables
-pub mod Names
 pub mod Community
-pub mod Arguments

@@ -1,7 +1,8 @@
 -- The lines that are printed of a message.
 --
--- `message_lines`, `scoped_lines`, `octets_line`. The lines of what a message says.
-use Rattle.std.specs.Prelude.{ℕ, Bool, true, false, not, ◌&&◌, List, [], ◌∷◌, ◌++◌, codes, decimal}
+-- `message_lines`, `scoped_lines`, `octets_line`. The lines of what a message says. `IsUnnamed`: they are printed so
+-- if no names are asked for. No definition says what names stand behind them else.
+use Rattle.std.specs.Prelude.{◌≡◌, ℕ, Bool, true, false, not, ◌&&◌, List, [], ◌∷◌, ◌++◌, codes, decimal}
 use Rattle.std.specs.List.{flat_map}
 use Rattle.std.specs.Fmt.{signed_decimal}
 use Rattle.hex.specs.Hex.{encode_lower}
@@ -71,3 +72,9 @@ abbrev pub scoped_lines : List ℕ → List ℕ → PduParts → List ℕ
 scoped_lines engine name p =
     octets_line (codes "context-engine") engine
     ++ (octets_line (codes "context") name ++ (pdu_line p ++ flat_map binding_line (variables_of p.list)))
+
+-- ---- with names
+
+-- The text is printed as it is, if no names are asked for.
+abbrev pub IsUnnamed : Bool → List ℕ → List ℕ → Type 0
+IsUnnamed names text printed = names ≡ false → printed ≡ text

@@ -14,7 +14,7 @@ use Rattle.snmpsec_output.specs.Refusals.{refused_line}
 use Rattle.snmpsec_output.specs.Show.{TellsNoHex}
 use Rattle.snmpsec_output.specs.Questions.{Printed, TellsRefused}
 
--- The lines of the message that these users open are printed, with names if these are asked for.
+-- The lines of the message that these users open are printed.
 pub record Opened (names : Bool) (users : List User) (w : List ℕ) (printed : Printed) : Type 0 where
   pub opens : OpensWith names users w (Ok printed.out)
   pub err : printed.err ≡ []

@@ -3,7 +3,7 @@
 -- `Opens users w answer`. The table of a manager without its time window, with the lines of the message in
 -- place of what is given on: `Verifies`, a row on the salt, and `ReadsMessage`. `TellsText`: the lines are
 -- those of the message and of the scoped PDU that the opened text begins with. `OpensWith names users w answer`:
--- the same, with names after the lines if these are asked for.
+-- the same, of lines that are printed so if no names are asked for.
 use Rattle.usm_core.specs.Table.{refusal_answer}
 use Rattle.snmp_message.specs.declared.refusal.Refusal.TheVariants.{DecryptionError}
 use Rattle.snmp_message.specs.declared.refusal.Refusal.{Refusal}
@@ -19,8 +19,7 @@ use Rattle.snmp_incoming.specs.Texts.{FrontOf, PduOf}
 use Rattle.snmp_incoming.specs.Outcome.{ReadsMessage}
 use Rattle.snmp_message.specs.declared.refused_at.RefusedAt.{RefusedAt}
 use Rattle.snmpsec_config.specs.Words.{level_word}
-use Rattle.snmpsec_output.specs.Lines.{message_lines, scoped_lines}
-use Rattle.snmpsec_output.specs.Names.{IsNamed}
+use Rattle.snmpsec_output.specs.Lines.{IsUnnamed, message_lines, scoped_lines}
 
 -- the lines of the message, of its level, and of the ScopedPDU in it
 abbrev pub opened_lines : Verified → Contexts → PduParts → List ℕ
@@ -48,13 +47,13 @@ Opens users w =
 
 -- ---- with names
 
--- The lines are those of `TellsText`, with names after them if these are asked for.
+-- The lines are those of `TellsText`, if no names are asked for.
 abbrev pub TellsWith : Bool → Verified → List ℕ → List ℕ → Type 0
-TellsWith names v text lines = (plain : List ℕ) × TellsText v text plain × IsNamed names plain lines
+TellsWith names v text lines = (plain : List ℕ) × TellsText v text plain × IsUnnamed names plain lines
 
--- The answer of `Opens`, its lines with names after them if these are asked for.
+-- The answer of `Opens`, its lines as they are if no names are asked for.
 abbrev pub OpensWith : Bool → List User → List ℕ → Result (List ℕ) Refusal → Type 0
-OpensWith names users w (Ok lines) = (plain : List ℕ) × Opens users w (Ok plain) × IsNamed names plain lines
+OpensWith names users w (Ok lines) = (plain : List ℕ) × Opens users w (Ok plain) × IsUnnamed names plain lines
 OpensWith names users w (Err refusal) = Opens users w (Err refusal)
 
 -- ---- the answer of the code

@@ -4,9 +4,8 @@
 -- refusal of the configuration; or, for the question that the words ask, the answer that `Allowed` has on
 -- the rows that the configuration stands for (`SaysSound`).
 --
--- `ExplainsAccess config words printed`. The same, and after the answer the lines of the rows that decide
--- (`TellsSteps`); `context_lines` (`Steps`): what they are.
-use Rattle.std.specs.Prelude.{◌≡◌, ◌≢◌, ◌⊎◌, ℕ, ◌≤◌, List, [], ◌++◌, codes, decimal, slice_index_or, Option}
+-- `ExplainsAccess config words printed`. The same, and more after the answer.
+use Rattle.std.specs.Prelude.{◌≡◌, ◌≢◌, ◌⊎◌, ℕ, ◌≤◌, List, [], ◌++◌, codes, decimal, slice_index_or}
 use Rattle.snmp_ber.specs.Oid.{AreArcs, dotted}
 use Rattle.snmp_ber.specs.declared.level.Level.{Level}
 use Rattle.snmp_ber.specs.declared.number.TheConstants.{MAX_INTEGER32}
@@ -20,9 +19,6 @@ use Rattle.usm_users.specs.declared.load.UserRow.{UserRow}
 use Rattle.snmpsec_config.specs.declared.fault.ConfigFault.{ConfigFault}
 use Rattle.snmpsec_config.specs.Refusals.{SaysSound, RefusesText, refusal_line}
 use Rattle.snmpsec_config.specs.Words.{level_word}
-use Rattle.vacm_core.specs.declared.steps.ContextStep.{ContextStep}
-use Rattle.vacm_core.specs.Steps.{TellsContext}
-use Rattle.snmpsec_output.specs.Steps.{context_lines}
 use Rattle.snmpsec_output.specs.declared.check.Question.{Question}
 use Rattle.snmpsec_access.specs.Words.{view_word, access_word}
 use Rattle.snmpsec_output.specs.Words.{access_status}
@@ -139,17 +135,12 @@ ChecksAccess config words printed = AnswersAs Answers config words printed
 
 -- ---- what decided
 
--- After the answer stand the lines of the rows that decided, as far as it came.
-pub record TellsSteps (rows : Tables) (asked : Asked) (answer out : List ℕ) : Type 0 where
-  pub steps : Option ContextStep
-  pub decided : TellsContext rows asked.message asked.view asked.arcs steps
-  pub text : out ≡ answer ++ context_lines steps
-
--- The answer over these rows is printed, and after it what decided.
+-- The answer over these rows is printed, and behind it what decided, in words that aren't defined.
 pub record Explains (rows : Tables) (asked : Asked) (printed : Printed) : Type 0 where
   pub answer : Access
   pub allowed : Allowed rows asked.message asked.view asked.arcs answer
-  pub out : TellsSteps rows asked (access_word answer ++ codes "\n") printed.out
+  pub decided : List ℕ
+  pub out : printed.out ≡ (access_word answer ++ codes "\n") ++ decided
   pub err : printed.err ≡ []
   pub status : printed.status ≡ access_status answer
 

@@ -1,12 +1,13 @@
--- What `snmpsec sees` prints.
+-- What `snmpsec sees` makes of a configuration and a name.
 --
 -- `PrintsSeen config word name printed`. A MODEL out of its form is reported first (`TellsModel`), then a
--- configuration that is refused with what is wrong with it, and else what the name sees (`ListsSeen`).
-use Rattle.std.specs.Prelude.{◌≡◌, ◌⊎◌, ℕ, Bool, if◌then◌else◌, List, [], codes}
+-- configuration that is refused with what is wrong with it, and else it is listed what the name sees (`ListsSeen`). In
+-- which words that is listed isn't defined.
+use Rattle.std.specs.Prelude.{◌≡◌, ◌⊎◌, ℕ, if◌then◌else◌, List, [], codes}
 use Rattle.usm_users.specs.declared.load.UserRow.{UserRow}
 use Rattle.vacm_core.specs.Tables.{Tables}
 use Rattle.snmpsec_config.specs.Refusals.{SaysSound}
-use Rattle.snmpsec_access.specs.Seen.{TellsSeen}
+use Rattle.snmpsec_access.specs.Seen.{AreSeen, Decided, any_includes}
 use Rattle.snmpsec_output.specs.CheckConfig.{Explains}
 use Rattle.snmpsec_output.specs.Questions.{Printed, IsModelWord, IsNoModel}
 
@@ -17,16 +18,16 @@ pub record TellsModel (word : List ℕ) (printed : Printed) : Type 0 where
   pub err : printed.err ≡ codes "snmpsec: bad word MODEL\n"
   pub status : printed.status ≡ 2
 
--- What the name sees is printed, over the rows that the configuration stands for; the status is 0 where a
--- line includes something.
+-- What the name sees, over the rows that the configuration stands for; the status is 0 where a row of it includes
+-- something.
 pub record ListsSeen (config : List ℕ) (model : ℕ) (name : List ℕ) (printed : Printed) : Type 0 where
   pub users : List UserRow
   pub rows : Tables
   pub says : SaysSound config users rows
-  pub included : Bool
-  pub out : TellsSeen rows model name printed.out included
+  pub decisions : List Decided
+  pub are : AreSeen rows model name decisions
   pub err : printed.err ≡ []
-  pub status : printed.status ≡ (if included then 0 else 1)
+  pub status : printed.status ≡ (if any_includes decisions then 0 else 1)
 
 -- A word out of its form is reported first, then a configuration that is refused and what is wrong with it, and
 -- else what the name sees.

@@ -1,8 +1,7 @@
 -- What `snmpsec show` prints, and why it refuses a datagram.
 --
--- `Show`: the text is the lines of all layers, and of the canonical spelling, with names after them if these
--- are asked for. `Merge`: what is printed for files of saved clocks. `Refusals`: refusals as the program prints
--- them.
+-- `Shows`: the text is the lines of all layers, and of the canonical spelling. `Merge`: what is printed for files of
+-- saved clocks. `Refusals`: refusals as the program prints them.
 use Rattle.std.specs.Prelude.{◌≡◌, ◌≢◌, ⊤, Bool, true, false, ℕ, ◌<◌, ◌⊎◌, List, [], ◌++◌, length, codes, Ok, IsErr}
 use Rattle.snmp_message.specs.declared.header.TheConstants.{USER_BASED}
 use Rattle.snmp_message.specs.declared.message.TheConstants.{LARGEST}
@@ -14,8 +13,7 @@ use Rattle.snmp_msg.specs.Pdu.{pdu_of}
 use Rattle.snmp_msg.specs.declared.whole.Layers.{Layers}
 use Rattle.snmp_msg.specs.declared.whole.Layer.{Layer}
 use Rattle.snmp_msg.specs.declared.whole.Layer.TheVariants as layers
-use Rattle.snmpsec_output.specs.Lines.{octets_line, message_lines, scoped_lines}
-use Rattle.snmpsec_output.specs.Names.{IsNamed}
+use Rattle.snmpsec_output.specs.Lines.{IsUnnamed, octets_line, message_lines, scoped_lines}
 use Rattle.snmp_msg.specs.Refusals.{RefusesWhole}
 use Rattle.snmp_message.specs.declared.refusal.Refusal.{Refusal}
 use Rattle.snmp_message.specs.declared.refusal.Refusal.TheVariants as refusals
@@ -41,13 +39,13 @@ shown_text m =
     message_lines m.header (fields_of m.security)
     ++ (contents_lines m.contents ++ (codes "canonical " ++ (encode_lower (whole_text (whole_of m)) ++ codes "\n")))
 
--- The datagram is such a message, and the text is the lines of what it says and of its canonical spelling, with
--- names after them if these are asked for.
+-- The datagram is such a message, and the text is the lines of what it says and of its canonical spelling, if no names
+-- are asked for.
 pub record Shows (names : Bool) (datagram text : List ℕ) : Type 0 where
   pub usm : IsUsmMessage datagram
   pub layers : Layers
   pub says : Says datagram (whole_of layers)
-  pub lines : IsNamed names (shown_text layers) text
+  pub lines : IsUnnamed names (shown_text layers) text
 
 -- The refusal is why the datagram isn't shown.
 abbrev pub RefusesShow : List ℕ → Refusal → Type 0

@@ -1,8 +1,8 @@
--- What `snmpsec who-sees` prints.
+-- What `snmpsec who-sees` makes of a configuration and words.
 --
 -- `PrintsWho config words only extent printed`. A word out of its form is reported first (`IsFirstWrong`), then a
--- configuration that is refused with what is wrong with it, and else who sees the variable (`Lists`), for
--- the view that is asked for or for each (`views_of`).
+-- configuration that is refused with what is wrong with it, and else it is listed who sees the variable (`Lists`), for
+-- the view that is asked for or for each (`views_of`). In which words they are listed isn't defined.
 use Rattle.std.specs.Prelude.{◌≡◌, ◌⊎◌, ⊤, ℕ, Bool, List, [], ◌∷◌, ◌++◌, codes, Option, Some, None, IsSomeAnd}
 use Rattle.snmp_ber.specs.Oid.{AreArcs, dotted}
 use Rattle.usm_users.specs.declared.load.UserRow.{UserRow}
@@ -11,7 +11,8 @@ use Rattle.vacm_core.specs.declared.access.ViewType.{ViewType}
 use Rattle.vacm_core.specs.declared.access.ViewType.TheVariants.{Read, Write, Notify}
 use Rattle.snmpsec_config.specs.Refusals.{SaysSound}
 use Rattle.snmpsec_access.specs.Words.{view_word}
-use Rattle.snmpsec_access.specs.WhoSees.{TellsWho}
+use Rattle.snmpsec_access.specs.Askers.{Asker}
+use Rattle.snmpsec_access.specs.WhoSees.{AreSeeing}
 use Rattle.snmpsec_access.specs.declared.extent.Extent.{Extent}
 use Rattle.snmpsec_output.specs.declared.arguments.Argument.{Argument}
 use Rattle.snmpsec_output.specs.declared.arguments.Argument.TheVariants.{Model, Level as LevelWord, View, Oid}
@@ -57,20 +58,22 @@ pub record TellsWord (words : WhoWords) (printed : Printed) : Type 0 where
   pub err : printed.err ≡ codes "snmpsec: " ++ ((codes "bad word " ++ argument_name argument) ++ codes "\n")
   pub status : printed.status ≡ 2
 
--- 0 where there is a line
-abbrev pub line_status : List ℕ → ℕ
-line_status [] = 1
-line_status (c ∷ cs) = 0
+-- 0 where someone sees it
+abbrev pub seeing_status : List Asker → ℕ
+seeing_status [] = 1
+seeing_status (asker ∷ askers) = 0
 
--- Who sees what is asked for is printed, over the rows that the configuration stands for.
+-- Who sees what is asked for, over the rows that the configuration stands for. Where nobody does, nothing is printed.
 pub record Lists (config : List ℕ) (only_users : Bool) (extent : Extent) (variable : List ℕ) (view : Option ViewType)
     (printed : Printed) : Type 0 where
   pub users : List UserRow
   pub rows : Tables
   pub says : SaysSound config users rows
-  pub out : TellsWho rows (views_of view) only_users users extent variable printed.out
+  pub seeing : List Asker
+  pub are : AreSeeing rows (views_of view) only_users users extent variable seeing
+  pub none : seeing ≡ [] → printed.out ≡ []
   pub err : printed.err ≡ []
-  pub status : printed.status ≡ line_status printed.out
+  pub status : printed.status ≡ seeing_status seeing
 
 -- A word out of its form is reported first, then a configuration that is refused and what is wrong with it, and
 -- else who sees what is asked for.

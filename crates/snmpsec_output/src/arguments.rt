@@ -1,8 +1,7 @@
 //! Why an argument of the command line is refused, and what is wanted.
 
-ghost use Rattle.std.specs.Prelude.{◌≡◌, ◌++◌, [], IfOk, codes, string_bytes};
+ghost use Rattle.std.specs.Prelude.{◌≡◌, ◌++◌, [], IfOk, codes};
 ghost use Rattle.snmpsec_output.specs.Questions.{argument_name};
-ghost use Rattle.snmpsec_output.specs.Arguments.{IsArgumentText};
 
 use crate::choices::nearest;
 use crate::output::Output;
@@ -15,7 +14,7 @@ use std::alloc::{AllocError, Global};
 use vacm_core::ViewType;
 
 /// An argument whose word has a form.
-#[derive(Clone, Copy, Debug, PartialEq, Eq)]
+#[derive(Clone, Copy)]
 pub(crate) enum Argument {
     Model,
     Level,
@@ -60,9 +59,7 @@ pub fn argument_words(
     word: &str,
     why: &str,
     wanted: &str,
-) -> Result<String, AllocError>
-    ensures { IfOk result (λ text. IsArgumentText name.now why.now wanted.now (string_bytes text)) }
-{
+) -> Result<String, AllocError> {
     let shown = Quoted(word).to_string(alloc)?;
     format!(in alloc; "{name} {shown}: {why}; {wanted}")
 }

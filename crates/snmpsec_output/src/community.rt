@@ -1,14 +1,11 @@
 //! `snmpsec show --community`: messages of version-1 and SNMPv2c beside those of SNMPv3.
 
-ghost use Rattle.std.specs.Prelude.{◌≡◌, ◌⊎◌, IfOk, MatchResult, string_bytes};
+ghost use Rattle.std.specs.Prelude.{◌≡◌, ◌≢◌, ◌⊎◌, [], IfOk, MatchResult, string_bytes};
 ghost use Rattle.snmp_message.specs.declared.refusal.Refusal.TheVariants as refusals;
-ghost use Rattle.snmp_msg.specs.Pdu.{pdu_of};
 ghost use Rattle.snmp_msg.specs.Refusals.{RefusesPdu};
 ghost use Rattle.snmp_community.specs.Layout.{IsMessage};
 ghost use Rattle.snmp_community.specs.Message.{parts};
-ghost use Rattle.snmpsec_output.specs.Community.{version_word, version_lines, community_lines};
-ghost use Rattle.snmpsec_output.specs.Community.{ShowsCommunity, ShowsAnyVersion, ShowsTextOfAny};
-ghost use Rattle.snmpsec_output.specs.Names.{IsNamed};
+ghost use Rattle.snmpsec_output.specs.Community.{SaysCommunity, ShowsAnyVersion, ShowsTextOfAny};
 ghost use Rattle.snmpsec_output.specs.Questions.{Printed};
 
 use crate::arguments::bad_digits;
@@ -16,52 +13,19 @@ use crate::lines::{pdu_lines, text_line};
 use crate::output::Output;
 use crate::show::{datagram_of, refused_output, show_datagram};
 use snmp_community::{CommunityMessage, Version, read_community_message, read_community_pdu};
-use snmp_msg::{Pdu, Refusal, RefusedAt};
+use snmp_msg::{Refusal, RefusedAt};
 use std::alloc::{AllocError, Global};
 
 /// The version as its messages are called.
-fn version_word(version: Version) -> &'static str
-    ensures { result.now ≡ version_word version }
-{
+fn version_word(version: Version) -> &'static str {
     match version {
         Version::Version1 => "SNMPv1",
         Version::Version2c => "SNMPv2c",
     }
 }
 
-/// The lines of the version and the community, with names if they are asked for.
-fn version_lines(
-    alloc: Global,
-    names: bool,
-    message: &CommunityMessage<'_>,
-) -> Result<String, AllocError>
-    ensures { IfOk result
-        (λ text. IsNamed names (version_lines message.now.version message.now.community.now)
-        (string_bytes text)) }
-{
-    let version = version_word(message.version);
-    let community = text_line(alloc, names, "community", message.community)?;
-    format!(in alloc; "version {version}\n{community}")
-}
-
-/// The lines of a message and of its PDU, with names if they are asked for.
-fn community_lines(
-    alloc: Global,
-    names: bool,
-    message: &CommunityMessage<'_>,
-    pdu: &Pdu<'_>,
-) -> Result<String, AllocError>
-    ensures { IfOk result
-        (λ text. IsNamed names (community_lines message.now.version message.now.community.now
-        (pdu_of pdu.now)) (string_bytes text)) }
-{
-    let front = version_lines(alloc, names, message)?;
-    let pdu = pdu_lines(alloc, names, pdu)?;
-    format!(in alloc; "{front}{pdu}")
-}
-
-/// The lines of a message with a community, which is the one of the datagram. The refusal is that of its PDU, or
-/// `OutOfMemory`.
+/// The lines of a message with a community, which is the one of the datagram, with names if they are asked for. The
+/// refusal is that of its PDU, or `OutOfMemory`.
 fn community_text(
     alloc: Global,
     names: bool,
@@ -69,12 +33,15 @@ fn community_text(
     message: &CommunityMessage<'_>,
 ) -> Result<String, RefusedAt>
     requires { IsMessage datagram.now (parts message.now) }
-    ensures { MatchResult result (λ text. ShowsCommunity names datagram.now (string_bytes text))
+    ensures { MatchResult result (λ text. SaysCommunity datagram.now × (string_bytes text ≢ []))
         (λ refused. (refused.refusal ≡ refusals.OutOfMemory)
         ⊎ RefusesPdu message.now.pdu.now refused.refusal) }
 {
     let pdu = read_community_pdu(datagram, message)?;
-    let text = community_lines(alloc, names, message, &pdu)?;
+    let version = version_word(message.version);
+    let community = text_line(alloc, names, "community", message.community)?;
+    let pdu = pdu_lines(alloc, names, &pdu)?;
+    let text = format!(in alloc; "version {version}\n{community}{pdu}")?;
     Ok(text)
 }
 

@@ -1,18 +1,16 @@
 //! `snmpsec explain-access`: what `check-access` answers, and which rows decided.
 
-ghost use Rattle.std.specs.Prelude.{◌≡◌, ◌++◌, [], IfOk, codes, map};
+ghost use Rattle.std.specs.Prelude.{◌≡◌, ◌++◌, [], ℕ, List, IfOk, codes, map};
 ghost use Rattle.vacm_core.specs.Tables.{tables_of, HaveSameRows};
 ghost use Rattle.vacm_core.specs.Allowed.{Allowed};
-ghost use Rattle.vacm_core.specs.Steps.{TellsContext};
 ghost use Rattle.snmpsec_output.specs.Questions.{ExplainsAccess, Printed, asked_of};
-ghost use Rattle.snmpsec_output.specs.Steps.{context_lines};
 ghost use Rattle.snmpsec_access.specs.Words.{access_word};
 ghost use Rattle.snmpsec_output.specs.Words.{access_status};
 
 use crate::arguments::bad_word;
 use crate::check::{Question, question_of, word_of};
 use crate::output::Output;
-use crate::steps::put_steps;
+use crate::steps::steps_text;
 use crate::words::status_of;
 use snmpsec_access::access_word;
 use snmpsec_config::AccessConfig;
@@ -50,11 +48,9 @@ pub fn explain_text(alloc: Global, config: &[u8], words: &[&str; 6]) -> Result<O
 /// What decides on the question over these tables, which are made of the rows.
 fn decide(access: &Vacm, rows: &Rows, question: &Question<'_>) -> Explained
     requires { HaveSameRows (tables_of rows.now) access.now }
-    ensures answer { let asked = asked_of question.now in Allowed
+    ensures { let asked = asked_of question.now in Allowed
         access.now asked.message asked.view asked.arcs
         result.answer }
-    ensures steps { let asked = asked_of question.now in TellsContext
-        (tables_of rows.now) asked.message asked.view asked.arcs result.context }
 {
     let asking = Asking {
         model: question.model,
@@ -70,13 +66,13 @@ fn decide(access: &Vacm, rows: &Rows, question: &Question<'_>) -> Explained
 /// The line for an answer, and those of the rows that decided.
 fn answer_and_rows(alloc: Global, explained: &Explained) -> Result<Output, AllocError>
     ensures out { IfOk result
-        (λ output. output.out.items
-        ≡ (access_word explained.now.answer ++ codes "\n") ++ context_lines explained.now.context) }
+        (λ output. (decided : List ℕ) × (output.out.items
+        ≡ (access_word explained.now.answer ++ codes "\n") ++ decided)) }
     ensures err { IfOk result (λ output. output.err.items ≡ []) }
     ensures status { IfOk result (λ output. output.status ≡ access_status explained.now.answer) }
 {
     let name = access_word(explained.answer);
-    let mut out = format!(in alloc; "{name}\n")?.into_bytes();
-    put_steps(alloc, &mut out, &explained.context)?;
-    Ok(Output::out(alloc, out, status_of(explained.answer)))
+    let steps = steps_text(alloc, &explained.context)?;
+    let text = format!(in alloc; "{name}\n{steps}")?;
+    Ok(Output::out(alloc, text.into_bytes(), status_of(explained.answer)))
 }

@@ -11,13 +11,6 @@
 //! );
 //! assert_eq!(rt; output.status, 1);
 //! ```
-//!
-//! ```
-//! use snmpsec_output::octets_line;
-//!
-//! let line = octets_line(rt.alloc(), "user", b"ann")?;
-//! assert_eq!(rt; line.as_str(), "user 616e6e\n");
-//! ```
 #![tactic(auto)]
 
 mod arguments;
@@ -39,6 +32,7 @@ mod open;
 mod opened;
 mod output;
 mod refusal_text;
+mod seen_lines;
 mod sees;
 mod show;
 mod steps;
@@ -52,11 +46,9 @@ pub use check_config::{check_config_hinted, check_config_text, refusal_and_why};
 pub use community::{show_any_version, show_any_version_text};
 pub use explain::explain_text;
 pub use laws::one_opening;
-pub use lines::{message_lines, octets_line, scoped_lines};
 pub use merge::{merge_text, refused_clocks};
 pub use near_names::group_why;
-pub use open::{open_datagram, open_named, open_text};
-pub use opened::opened_lines;
+pub use open::{open_datagram, open_named};
 pub use output::Output;
 pub use sees::sees_text;
 pub use show::{show_datagram, show_named, show_text};

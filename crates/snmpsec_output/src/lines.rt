@@ -7,8 +7,7 @@ ghost use Rattle.snmp_msg.specs.Variables.{variable_of, variables_of};
 ghost use Rattle.snmp_msg.specs.Pdu.{pdu_of};
 ghost use Rattle.snmpsec_output.specs.Lines as spec;
 ghost use Rattle.snmpsec_output.specs.Lines.{octets_text, flag_text, flags_line, header_lines, security_lines};
-ghost use Rattle.snmpsec_output.specs.Lines.{binding_line, pdu_line};
-ghost use Rattle.snmpsec_output.specs.Names.{IsNamed};
+ghost use Rattle.snmpsec_output.specs.Lines.{IsUnnamed, binding_line, pdu_line};
 
 use crate::names::{binding_note, octets_note, pdu_note};
 use snmp_msg::{Binding, Header, Pdu, Scoped, Security};
@@ -25,7 +24,7 @@ fn octets_text(alloc: Global, octets: &[u8]) -> Result<String, AllocError>
 }
 
 /// A line with a name and octets in lower-case hex, or `-` where there is none.
-pub fn octets_line(alloc: Global, name: &str, octets: &[u8]) -> Result<String, AllocError>
+pub(crate) fn octets_line(alloc: Global, name: &str, octets: &[u8]) -> Result<String, AllocError>
     ensures { IfOk result (λ text. string_bytes text ≡ spec.octets_line name.now octets.now) }
 {
     let octets = octets_text(alloc, octets)?;
@@ -39,7 +38,7 @@ pub(crate) fn text_line(
     name: &str,
     octets: &[u8],
 ) -> Result<String, AllocError>
-    ensures { IfOk result (λ text. IsNamed names (spec.octets_line name.now octets.now)
+    ensures { IfOk result (λ text. IsUnnamed names (spec.octets_line name.now octets.now)
         (string_bytes text)) }
 {
     let digits = octets_text(alloc, octets)?;
@@ -78,7 +77,7 @@ fn header_lines(alloc: Global, header: &Header) -> Result<String, AllocError>
 /// The fields of msgSecurityParameters (RFC 3414, section 2.4), with names if they are asked for.
 fn security_lines(alloc: Global, names: bool, security: &Security<'_>) -> Result<String, AllocError>
     ensures { IfOk result
-        (λ text. IsNamed names (security_lines (fields_of security.now)) (string_bytes text)) }
+        (λ text. IsUnnamed names (security_lines (fields_of security.now)) (string_bytes text)) }
 {
     let engine = octets_line(alloc, "engine", security.engine)?;
     let (boots, time) = (security.boots, security.time);
@@ -91,14 +90,14 @@ fn security_lines(alloc: Global, names: bool, security: &Security<'_>) -> Result
 /// The lines of msgGlobalData and msgSecurityParameters: `id`, `max-size`, `flags`, `engine`, `boots`,
 /// `time`, `user`, `auth` and `privacy`, with names after them if these are asked for. `AllocError` if memory
 /// runs out.
-pub fn message_lines(
+pub(crate) fn message_lines(
     alloc: Global,
     names: bool,
     header: &Header,
     security: &Security<'_>,
 ) -> Result<String, AllocError>
     ensures { IfOk result
-        (λ text. IsNamed names (spec.message_lines header.now (fields_of security.now))
+        (λ text. IsUnnamed names (spec.message_lines header.now (fields_of security.now))
         (string_bytes text)) }
 {
     let header = header_lines(alloc, header)?;
@@ -108,7 +107,7 @@ pub fn message_lines(
 
 /// A variable binding: its name, and the tag and the content of its value.
 fn binding_line(alloc: Global, names: bool, binding: &Binding<'_>) -> Result<String, AllocError>
-    ensures { IfOk result (λ text. IsNamed names (binding_line (variable_of binding.now))
+    ensures { IfOk result (λ text. IsUnnamed names (binding_line (variable_of binding.now))
         (string_bytes text)) }
 {
     let name = &binding.name;
@@ -120,7 +119,7 @@ fn binding_line(alloc: Global, names: bool, binding: &Binding<'_>) -> Result<Str
 
 /// The tag of a PDU, and its three numbers.
 fn pdu_line(alloc: Global, names: bool, pdu: &Pdu<'_>) -> Result<String, AllocError>
-    ensures { IfOk result (λ text. IsNamed names (pdu_line (pdu_of pdu.now)) (string_bytes text)) }
+    ensures { IfOk result (λ text. IsUnnamed names (pdu_line (pdu_of pdu.now)) (string_bytes text)) }
 {
     let tag = hex::encode(alloc, [pdu.tag].as_slice())?;
     let (id, second, third) = (pdu.id, pdu.second, pdu.third);
@@ -131,7 +130,7 @@ fn pdu_line(alloc: Global, names: bool, pdu: &Pdu<'_>) -> Result<String, AllocEr
 /// The line of a PDU, and its bindings, a line each.
 pub(crate) fn pdu_lines(alloc: Global, names: bool, pdu: &Pdu<'_>) -> Result<String, AllocError>
     ensures { IfOk result
-        (λ text. IsNamed names (pdu_line (pdu_of pdu.now) ++ flat_map binding_line
+        (λ text. IsUnnamed names (pdu_line (pdu_of pdu.now) ++ flat_map binding_line
         (variables_of pdu.now.list.now))
         (string_bytes text)) }
 {
@@ -146,14 +145,14 @@ pub(crate) fn pdu_lines(alloc: Global, names: bool, pdu: &Pdu<'_>) -> Result<Str
 /// The lines of a ScopedPDU (RFC 3412, section 6.8) and of the PDU in it: `context-engine`, `context`, `pdu`,
 /// and `binding` for each variable binding, with names after them if these are asked for. `AllocError` if memory
 /// runs out.
-pub fn scoped_lines(
+pub(crate) fn scoped_lines(
     alloc: Global,
     names: bool,
     scoped: &Scoped<'_>,
     pdu: &Pdu<'_>,
 ) -> Result<String, AllocError>
     ensures { IfOk result
-        (λ text. IsNamed names (spec.scoped_lines scoped.now.engine.now scoped.now.name.now
+        (λ text. IsUnnamed names (spec.scoped_lines scoped.now.engine.now scoped.now.name.now
         (pdu_of pdu.now))
         (string_bytes text)) }
 {

@@ -29,7 +29,7 @@ pub fn merge_text(
 {
     absorbing_each_text_merges();
     let mut joined = Clocks::new(alloc);
-    'files: for file in files {
+    for file in files {
         let clocks = match Clocks::read_saved(alloc, &file.1, moment) {
             Ok(clocks) => clocks,
             Err(fault) => return refused_clocks(alloc, &file.0, fault, &file.1),

@@ -8,7 +8,7 @@ use std::fmt;
 const SEQUENCE: u8 = 0x30;
 
 /// How many octets a message says that it has, and how many there are.
-#[derive(Clone, Copy, Debug, PartialEq, Eq, Drop)]
+#[derive(Clone, Copy)]
 pub struct CutMessage {
     pub said: usize,
     pub there: usize,

@@ -1,7 +1,7 @@
 //! Names after the lines that `show` and `open` print.
 
-ghost use Rattle.std.specs.Prelude.{IfOk, string_bytes};
-ghost use Rattle.snmpsec_output.specs.Names.{IsNoteIf};
+ghost use Rattle.std.specs.Prelude.{[], IfOk, string_bytes};
+ghost use Rattle.snmpsec_output.specs.Lines.{IsUnnamed};
 
 use crate::counters::counter_name;
 use snmp_ber::split_once;
@@ -12,7 +12,7 @@ use std::alloc::{AllocError, Global};
 /// What follows a line that has this name: ` # NAME` if names are asked for, and else nothing. An empty name,
 /// and one with a line feed, are left out.
 fn note(alloc: Global, names: bool, name: &str) -> Result<String, AllocError>
-    ensures { IfOk result (λ note. IsNoteIf names (string_bytes note)) }
+    ensures { IfOk result (λ note. IsUnnamed names [] (string_bytes note)) }
 {
     if !names || name.is_empty() {
         return Ok(String::new(alloc));
@@ -25,7 +25,7 @@ fn note(alloc: Global, names: bool, name: &str) -> Result<String, AllocError>
 
 /// The note after a line of octets: these as text between quotes, if they are UTF-8.
 pub(crate) fn octets_note(alloc: Global, names: bool, octets: &[u8]) -> Result<String, AllocError>
-    ensures { IfOk result (λ note. IsNoteIf names (string_bytes note)) }
+    ensures { IfOk result (λ note. IsUnnamed names [] (string_bytes note)) }
 {
     if !names || octets.is_empty() {
         return note(alloc, names, "");
@@ -44,7 +44,7 @@ fn text_if_utf8(alloc: Global, octets: &[u8]) -> Result<String, AllocError> {
 
 /// The note after the line of a PDU: its type (RFC 3416, section 3).
 pub(crate) fn pdu_note(alloc: Global, names: bool, pdu: &Pdu<'_>) -> Result<String, AllocError>
-    ensures { IfOk result (λ note. IsNoteIf names (string_bytes note)) }
+    ensures { IfOk result (λ note. IsUnnamed names [] (string_bytes note)) }
 {
     match PduType::of(pdu.tag) {
         Some(pdu_type) => note(alloc, names, pdu_name(pdu_type)),
@@ -58,7 +58,7 @@ pub(crate) fn binding_note(
     names: bool,
     binding: &Binding<'_>,
 ) -> Result<String, AllocError>
-    ensures { IfOk result (λ note. IsNoteIf names (string_bytes note)) }
+    ensures { IfOk result (λ note. IsUnnamed names [] (string_bytes note)) }
 {
     if !names {
         return note(alloc, names, "");

@@ -1,6 +1,6 @@
 //! `snmpsec open`: a message, opened by the keys of a configuration's users.
 
-ghost use Rattle.std.specs.Prelude.{◌≡◌, false, IfOk};
+ghost use Rattle.std.specs.Prelude.{◌≡◌, IfOk};
 ghost use Rattle.snmpsec_output.specs.Questions.{Printed};
 ghost use Rattle.snmpsec_output.specs.Open.{OpensBy, OpensText};
 
@@ -12,26 +12,12 @@ use snmpsec_config::Config;
 use std::alloc::{AllocError, Global};
 use usm_core::Users;
 
-/// What `snmpsec open CONFIG HEX` prints, without names: `open_named` prints them too. These are the lines of the
-/// message, opened by the keys of the configuration's users, as a manager does that has no clocks, with status 0.
+/// What `snmpsec open CONFIG HEX` prints: the lines of the message, opened by the keys of the configuration's users, as
+/// a manager does that has no clocks, with status 0. Names stand after the lines if these are asked for.
 ///
 /// An argument that isn't one or more pairs of hex digits is reported on standard error, with status 2. Then a
 /// configuration that isn't read is reported by one line, with status 1. A refusal of the message is a line with
 /// status 1 too; `opened_lines` says in which order they come.
-pub fn open_text(alloc: Global, config: &[u8], digits: &str) -> Result<Output, AllocError>
-    ensures { IfOk result
-        (λ output. let printed : Printed = record {
-          out = output.out.items;
-          err = output.err.items;
-          status = output.status;
-        } in
-        OpensText false config.now digits.now printed) }
-{
-    open_named(alloc, false, config, digits)
-}
-
-/// What `snmpsec open CONFIG HEX` prints, with names after the lines if these are asked for. The refusals are those
-/// of `open_text`.
 pub fn open_named(
     alloc: Global,
     names: bool,

@@ -18,7 +18,7 @@ use usm_core::{Checked, Role, Users};
 /// The errors are, the first that applies: those of `Users::open_auth`, then OutOfMemory (14),
 /// DecryptionError (11), BadScoped (12) and BadPdu (13). The time window isn't looked at. OutOfMemory comes
 /// too if the lines find no memory.
-pub fn opened_lines(
+pub(crate) fn opened_lines(
     alloc: Global,
     names: bool,
     users: &mut Users,

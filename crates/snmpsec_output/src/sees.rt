@@ -1,24 +1,27 @@
 //! `snmpsec sees`: what a name may see.
 
-ghost use Rattle.std.specs.Prelude.{◌≡◌, [], Bool, if◌then◌else◌, IfOk};
+ghost use Rattle.std.specs.Prelude.{◌≡◌, [], List, if◌then◌else◌, IfOk};
 ghost use Rattle.vacm_core.specs.Tables.{tables_of, HaveSameRows};
 ghost use Rattle.vacm_core.specs.Distinct.{HasOneRowEach};
-ghost use Rattle.snmpsec_access.specs.Seen.{TellsSeen};
+ghost use Rattle.std.specs.List.{list_any};
+ghost use Rattle.snmpsec_access.specs.Rising.{decision_of};
+ghost use Rattle.snmpsec_access.specs.Seen.{AreSeen, Decided, any_includes, includes};
 ghost use Rattle.snmpsec_output.specs.Questions.{Printed};
 ghost use Rattle.snmpsec_output.specs.Sees.{PrintsSeen};
 
 use crate::arguments::{Argument, bad_word};
 use crate::check_config::refusal_and_why;
 use crate::output::Output;
+use crate::seen_lines::seen_text;
 use crate::words::model_of;
-use snmpsec_access::sees;
+use snmpsec_access::{Seen, any_includes, sees};
 use snmpsec_config::AccessConfig;
 use std::alloc::{AllocError, Global};
 
 /// What `snmpsec sees` prints for a configuration and the words MODEL and NAME: for each level, view and
-/// context an answer of `check-access` that each variable gets, or lines with `+` or `-` and a subtree, of
-/// which the last that fits a variable says whether it may be seen. The status is 0 where a line has `+`, and
-/// else 1.
+/// context a line `LEVEL VIEW CONTEXT ANSWER`, where each variable gets that answer, or lines `LEVEL VIEW CONTEXT +
+/// SUBTREE` and `LEVEL VIEW CONTEXT - SUBTREE`, an arc that may be any as `*`, of which the last that fits a variable
+/// says whether it may be seen (`snmpsec_access::sees`). The status is 0 where a line has `+`, and else 1.
 ///
 /// A MODEL out of its form is reported on standard error, with status 2; then a configuration that is refused,
 /// with what is wrong on standard error, and status 1. No key is made of a password.
@@ -55,13 +58,20 @@ fn list_seen(
 ) -> Result<Output, AllocError>
     requires one_each { HasOneRowEach (tables_of config.now.rows.access) }
     requires same_rows { HaveSameRows (tables_of config.now.rows.access) config.now.access }
-    ensures out { IfOk result
-        (λ output. (included : Bool)
-        × TellsSeen (tables_of config.now.rows.access) model name.now output.out.items included
-        × (output.status ≡ (if included then 0 else 1))) }
+    ensures seen { IfOk result
+        (λ output. (decisions : List Decided)
+        × AreSeen (tables_of config.now.rows.access) model name.now decisions
+        × (output.status ≡ (if any_includes decisions then 0 else 1))) }
     ensures err { IfOk result (λ output. output.err.items ≡ []) }
 {
     let seen = sees(alloc, &config.access, &config.rows.access, model, name)?;
-    let status = if seen.included { 0 } else { 1 };
-    Ok(Output::out(alloc, seen.text, status))
+    let text = seen_text(alloc, &seen)?;
+    Ok(Output::out(alloc, text.into_bytes(), seen_status(&seen)))
+}
+
+/// 0 where a row of what is seen includes something.
+fn seen_status(seen: &[Seen<'_>]) -> u8
+    ensures { result ≡ (if list_any (λ s. includes (decision_of s.deciding)) seen.now then 0 else 1) }
+{
+    if any_includes(seen) { 0 } else { 1 }
 }

@@ -8,7 +8,7 @@ ghost use Rattle.snmp_message.specs.declared.refusal.Refusal.TheVariants as refu
 ghost use Rattle.hex.specs.declared.FromHexError.TheVariants as hex_faults;
 ghost use Rattle.snmpsec_output.specs.Show.{IsUsmMessage, Shows, RefusesShow, IsNoHex, ShowsDatagram, ShowsText};
 ghost use Rattle.snmpsec_output.specs.Show.{contents_lines};
-ghost use Rattle.snmpsec_output.specs.Names.{IsNamed};
+ghost use Rattle.snmpsec_output.specs.Lines.{IsUnnamed};
 ghost use Rattle.snmpsec_output.specs.Questions.{Printed};
 ghost use Rattle.snmpsec_output.specs.Refusals.{refused_line};
 
@@ -25,7 +25,7 @@ use std::alloc::{AllocError, Global};
 
 /// The lines of msgData: sealed octets, or the contexts and the PDU.
 fn contents_lines(alloc: Global, names: bool, contents: &Layer<'_>) -> Result<String, AllocError>
-    ensures { IfOk result (λ text. IsNamed names (contents_lines contents.now)
+    ensures { IfOk result (λ text. IsUnnamed names (contents_lines contents.now)
         (string_bytes text)) }
 {
     match contents {

@@ -13,7 +13,7 @@ use std::fmt;
 const NUMBERS: usize = 128;
 
 /// Why a word isn't the numbers of an object identifier with dots between. Numbers are counted from 1.
-#[derive(Clone, Copy, Debug, PartialEq, Eq, Drop)]
+#[derive(Clone, Copy)]
 pub enum VariableFault<'a> {
     Empty,
     /// There is a dot before the first number; and what follows it.

@@ -1,19 +1,22 @@
 //! `snmpsec who-sees`: who may see a variable, or some name at or below it.
 
-ghost use Rattle.std.specs.Prelude.{◌≡◌, [], IfOk, IfErr};
+ghost use Rattle.std.specs.Prelude.{◌≡◌, [], List, map, IfOk, IfErr};
 ghost use Rattle.std.specs.Option.{option_map};
 ghost use Rattle.vacm_core.specs.Tables.{tables_of, HaveSameRows};
-ghost use Rattle.snmpsec_access.specs.WhoSees.{AnswerFor, TellsWho};
+ghost use Rattle.snmpsec_access.specs.Askers.{Asker};
+ghost use Rattle.snmpsec_access.specs.WhoSees.{AnswerFor, AreSeeing, asker_of};
 ghost use Rattle.snmpsec_output.specs.Questions.{Printed};
-ghost use Rattle.snmpsec_output.specs.WhoSees.{PrintsWho, WhoWords, AsksWho, IsFirstWrong, views_of, line_status};
+ghost use Rattle.snmpsec_output.specs.WhoSees.{PrintsWho, WhoWords, AsksWho, IsFirstWrong, seeing_status, views_of};
 
 use crate::arguments::{Argument, bad_word};
 use crate::check_config::refusal_and_why;
 use crate::output::Output;
 use crate::words::view_of;
 use snmp_ber::Oid;
-use snmpsec_access::{Extent, WhoSeesQuery, who_sees};
-use snmpsec_config::AccessConfig;
+use snmpsec_access::{
+    AllowedAsker, Extent, WhoSeesQuery, context_text, name_text, view_word, who_sees,
+};
+use snmpsec_config::{AccessConfig, level_word};
 use std::alloc::{AllocError, Global};
 use vacm_core::ViewType;
 
@@ -97,20 +100,37 @@ fn asked_of(variable: &str, view: Option<&str>) -> Result<Asked, Argument>
     }
 }
 
-/// The lines of who sees what is asked for.
-fn lines_of(
+/// Appends the line of who asks.
+fn put_asker(alloc: Global, out: &mut String, asker: &AllowedAsker<'_>) -> Result<(), AllocError> {
+    let (model, level, view) = (asker.model, level_word(asker.level), view_word(asker.view));
+    let name = name_text(alloc, asker.name)?;
+    let context = context_text(alloc, asker.context)?;
+    write!(out, "{model} {name} {level} {view} {context}\n")
+}
+
+/// The lines of those who ask.
+fn lines_of(alloc: Global, askers: &[AllowedAsker<'_>]) -> Result<String, AllocError> {
+    let mut text = String::new(alloc);
+    for asker in askers {
+        put_asker(alloc, &mut text, asker)?;
+    }
+    Ok(text)
+}
+
+/// Who sees what is asked for.
+fn askers_of<'a>(
     alloc: Global,
-    config: &AccessConfig,
-    asked: &Asked,
+    config: &'a AccessConfig,
+    asked: &'a Asked,
     only_users: bool,
     extent: Extent,
-) -> Result<Vec<u8>, AllocError>
+) -> Result<Vec<AllowedAsker<'a>>, AllocError>
     requires answers { AnswerFor config.now.access (tables_of config.now.rows.access) }
     requires same_rows { HaveSameRows (tables_of config.now.rows.access) config.now.access }
     ensures { IfOk result
-        (λ text. TellsWho (tables_of config.now.rows.access)
+        (λ seeing. AreSeeing (tables_of config.now.rows.access)
         (views_of asked.now.view) only_users config.now.rows.users.items extent
-        asked.now.variable text.items) }
+        asked.now.variable (map asker_of seeing.items)) }
 {
     let wanted = WhoSeesQuery {
         access: &config.access,
@@ -140,14 +160,17 @@ fn list_askers(
 ) -> Result<Output, AllocError>
     requires answers { AnswerFor config.now.access (tables_of config.now.rows.access) }
     requires same_rows { HaveSameRows (tables_of config.now.rows.access) config.now.access }
-    ensures out { IfOk result
-        (λ output. TellsWho (tables_of config.now.rows.access)
+    ensures listed { IfOk result
+        (λ output. (seeing : List Asker) × AreSeeing (tables_of config.now.rows.access)
         (views_of asked.now.view) only_users config.now.rows.users.items extent
-        asked.now.variable output.out.items) }
+        asked.now.variable seeing
+        × (seeing ≡ [] → output.out.items ≡ []) × (output.status ≡ seeing_status seeing)) }
     ensures err { IfOk result (λ output. output.err.items ≡ []) }
-    ensures status { IfOk result (λ output. output.status ≡ line_status output.out.items) }
 {
-    let text = lines_of(alloc, config, asked, only_users, extent)?;
-    let status = if text.is_empty() { 1 } else { 0 };
-    Ok(Output::out(alloc, text, status))
+    let askers = askers_of(alloc, config, asked, only_users, extent)?;
+    if askers.is_empty() {
+        return Ok(Output::out(alloc, Vec::new(alloc), 1));
+    }
+    let text = lines_of(alloc, &askers)?;
+    Ok(Output::out(alloc, text.into_bytes(), 0))
 }

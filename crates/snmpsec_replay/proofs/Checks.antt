@@ -1,29 +1,25 @@
 -- A log that is looked at, line by line.
-use Rattle.std.proofs.Common.{◌≡◌, ℕ, ◌+◌, ◌<◌, ◌≤◌, List, [], ◌∷◌, ◌++◌, length, Option, Some, None, is_some, false, Result, Ok, Err, IfOk, refl, sym, ap, ◌∙◌, arith, append-nil, length-append, subst}
+use Rattle.std.proofs.Common.{◌≡◌, ℕ, ◌+◌, ◌<◌, ◌≤◌, List, [], ◌∷◌, ◌++◌, length, Option, refl, inl, inr, sym, ap, ◌∙◌, arith, append-nil, length-append, subst}
 use Rattle.std.specs.Io.KnownBytes.{Consumes}
 use Rattle.std.proofs.KnownBytes.{Consumes-nil, Consumes-trans}
 use Rattle.snmp_ber.specs.Splits.{Lacks}
 use Rattle.snmpsec_replay.specs.Log.{LogEntry, IsLine, IsLineAt}
-use Rattle.snmpsec_replay.specs.Lines.{IsReadAs}
-use Rattle.snmpsec_replay.specs.Replay.{from_line_1}
-use Rattle.snmpsec_replay.specs.Checked.{ReadsLog, StopsLine, StopsLog, TellsEntry, TellsLine}
+use Rattle.snmpsec_replay.specs.Replay.{IsBad, from_line_1}
+use Rattle.snmpsec_replay.specs.Checked.{ReadsLog, StopsLog}
+use Rattle.snmpsec_replay.specs.Entries.{IsNoEntry, StopsNext}
 use Rattle.snmpsec_replay.specs.declared.fault.ReplayFault.{ReplayFault}
 use Rattle.snmpsec_replay.specs.declared.fault.ReplayFault.TheVariants as faults
-use Rattle.snmpsec_replay.specs.declared.checked.CheckedLine.{CheckedLine}
-use Rattle.snmpsec_replay.specs.declared.checked.CheckedLine.TheVariants as lines
-use Rattle.snmpsec_replay.proofs.Replays.{IsNext, lines_more, bad_line}
+use Rattle.snmpsec_replay.proofs.Replays.{IsNext, lines_more, bad_line, bad_front}
 
--- what isn't read is no line
-pub not_read : (line : List ℕ) (o : Option LogEntry) → is_some o ≡ false → IsReadAs line o → (e : LogEntry) → IsLine line e → ⊥
-not_read line None h is = is
-not_read line (Some x) h is = absurd cc
-
-pub entry_line : (r : Result CheckedLine ReplayFault) (unread left : Option (List ℕ)) (line : List ℕ) → IfOk r (TellsEntry line) → Lacks 10 line → length line ≤ 131072
-    → Consumes unread left (line ++ 10 ∷ []) → IfOk r (TellsLine unread left)
-entry_line (Ok lines.Sound) unread left line h plain short c = (line, h.0, h.1, short, c)
-entry_line (Ok lines.End) unread left line h plain short c = absurd h
-entry_line (Ok (lines.Faulty why)) unread left line h plain short c = (line ++ 10 ∷ [], c, λ es k n. bad_line from_line_1 left k line plain h es n)
-entry_line (Err fault) unread left line h plain short c = tt
+-- what is no entry is no line of this number
+pub no_entry : (left : Option (List ℕ)) (k : ℕ) (part : List ℕ) → IsNoEntry left part → (es : List LogEntry) → k ≡ length es → IsBad from_line_1 left (k + 1) es part
+no_entry left k part h es n =
+    let number : 1 + k ≡ k + 1 = omega arith in
+    subst (λ m. IsBad from_line_1 left m es part) number (elim h [
+      | inl long ↦ bad_front from_line_1 left k part long.0 (inl long.1) es n
+      | inr (inl cut) ↦ bad_front from_line_1 left k part cut.0 (inr (cut.1, cut.2)) es n
+      | inr (inr bad) ↦ subst (λ p. IsBad from_line_1 left (1 + k) es p) (sym bad.1) (bad_line from_line_1 left k bad.0 bad.2 bad.3 es n)
+    ])
 
 pub begins : (unread : Option (List ℕ)) → ReadsLog unread unread (IsNext 0)
 begins unread = record { entries = []; read = []; part = []; lines = refl; consumed = Consumes-nil unread; is_part = (refl, refl) }
@@ -58,7 +54,7 @@ ends unread left k r left' P part c says = record {
 }
 
 -- a read that fails behind lines
-pub stops : (unread left : Option (List ℕ)) (k : ℕ) → ReadsLog unread left (IsNext k) → (left' : Option (List ℕ)) (fault : ReplayFault) → StopsLine left left' fault
+pub stops : (unread left : Option (List ℕ)) (k : ℕ) → ReadsLog unread left (IsNext k) → (left' : Option (List ℕ)) (fault : ReplayFault) → StopsNext left left' fault
     → StopsLog unread left' fault
 stops unread left k r left' faults.CannotRead h = ends unread left k r left' (λ es part. Lacks 10 part) h.0 h.2 (λ es n. h.1)
 stops unread left k r left' faults.OutOfMemory h = tt

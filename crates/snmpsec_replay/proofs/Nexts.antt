@@ -11,5 +11,5 @@ pub line_next : (r : Result NextEntry ReplayFault) (unread left : Option (List �
     → Consumes unread left (line ++ 10 ∷ []) → IfOk r (TellsNext unread left)
 line_next (Ok (next.Entry e)) unread left line h plain short c = (line, h, plain, short, c)
 line_next (Ok next.End) unread left line h plain short c = absurd h
-line_next (Ok (next.Faulty why)) unread left line h plain short c = (line ++ 10 ∷ [], c, inr (inr (line, refl, h)))
+line_next (Ok (next.Faulty why)) unread left line h plain short c = (line ++ 10 ∷ [], c, inr (inr (line, refl, plain, h)))
 line_next (Err fault) unread left line h plain short c = tt

@@ -5,16 +5,13 @@
 --
 -- `StopsLog`. Where a read fails, lines of a log stand before it, and a part of what is next, without a
 -- line feed.
-use Rattle.std.specs.Prelude.{◌≡◌, ⊤, ℕ, ◌+◌, ◌≤◌, List, [], ◌∷◌, ◌++◌, length, Option}
-use Rattle.std.specs.Io.KnownBytes.{Consumes, IsAtEnd}
+use Rattle.std.specs.Prelude.{◌≡◌, ⊤, ℕ, List, ◌++◌, length, Option}
+use Rattle.std.specs.Io.KnownBytes.{Consumes}
 use Rattle.snmp_ber.specs.Splits.{Lacks}
-use Rattle.snmpsec_replay.specs.Lines.{ReadsPart}
-use Rattle.snmpsec_replay.specs.Log.{LogEntry, IsLine, AreLines}
+use Rattle.snmpsec_replay.specs.Log.{LogEntry, AreLines}
 use Rattle.snmpsec_replay.specs.Replay.{IsEnd, IsBad, from_line_1}
 use Rattle.snmpsec_replay.specs.declared.checked.CheckedLog.{CheckedLog}
 use Rattle.snmpsec_replay.specs.declared.checked.CheckedLog.TheVariants as logs
-use Rattle.snmpsec_replay.specs.declared.checked.CheckedLine.{CheckedLine}
-use Rattle.snmpsec_replay.specs.declared.checked.CheckedLine.TheVariants as lines
 use Rattle.snmpsec_replay.specs.declared.fault.ReplayFault.{ReplayFault}
 use Rattle.snmpsec_replay.specs.declared.fault.ReplayFault.TheVariants as faults
 
@@ -39,27 +36,3 @@ StopsLog unread left faults.CannotRead = ReadsLog unread left (λ es part. Lacks
 StopsLog unread left faults.OutOfMemory = ⊤
 StopsLog unread left (faults.LogLine n why) = ⊥
 StopsLog unread left faults.CannotWrite = ⊥
-
--- ---- one line
-
--- the same of one
-abbrev pub StopsLine : Option (List ℕ) → Option (List ℕ) → ReplayFault → Type 0
-StopsLine unread left faults.CannotRead = ReadsPart unread left
-StopsLine unread left faults.OutOfMemory = ⊤
-StopsLine unread left (faults.LogLine n why) = ⊥
-StopsLine unread left faults.CannotWrite = ⊥
-
--- A line with its line feed says something, or is faulty.
-abbrev pub TellsEntry : List ℕ → CheckedLine → Type 0
-TellsEntry line lines.Sound = (e : LogEntry) × IsLine line e
-TellsEntry line lines.End = ⊥
-TellsEntry line (lines.Faulty why) = (e : LogEntry) → IsLine line e → ⊥
-
--- what was read next, where it may be a line
-abbrev pub TellsLine : Option (List ℕ) → Option (List ℕ) → CheckedLine → Type 0
-TellsLine unread left lines.Sound =
-    (line : List ℕ) × (e : LogEntry) × IsLine line e × (length line ≤ 131072) × Consumes unread left (line ++ 10 ∷ [])
-TellsLine unread left lines.End = Consumes unread left [] × IsAtEnd left
-TellsLine unread left (lines.Faulty why) =
-    (part : List ℕ) × Consumes unread left part
-    × ((es : List LogEntry) (k : ℕ) → k ≡ length es → IsBad from_line_1 left (1 + k) es part)

@@ -1,12 +1,12 @@
 //! Whether a text is a log, and what is wrong where it isn't.
 
-ghost use Rattle.std.specs.Prelude.{◌≡◌, ◌≤◌, IfOk, IfErr, vec_capacity};
-ghost use Rattle.snmpsec_replay.specs.Checked.{TellsLog, TellsLine, TellsEntry, StopsLog, StopsLine};
-ghost use Rattle.snmpsec_replay.specs.declared.fault.ReplayFault.TheVariants as faults;
+ghost use Rattle.std.specs.Prelude.{IfOk, IfErr};
+ghost use Rattle.snmpsec_replay.specs.Checked.{TellsLog, StopsLog};
 
+use crate::entries::{NextEntry, next_entry};
 use crate::fault::ReplayFault;
-use crate::line_fault::{LogLineFault, line_fault};
-use crate::log::{LINE_LIMIT, LINES_LIMIT, NextLine, read_entry, read_line};
+use crate::line_fault::LogLineFault;
+use crate::log::{LINE_LIMIT, LINES_LIMIT};
 use snmpsec_io::read_octet;
 use std::alloc::Global;
 use std::io::BufRead;
@@ -18,17 +18,6 @@ pub enum CheckedLog {
     Whole(u64),
     /// The line of this number, from 1, is the first that is none; and what is wrong with it.
     Faulty { number: u64, why: LogLineFault },
-}
-
-/// What is next in a log.
-#[derive(Clone, Copy, Drop)]
-pub(crate) enum CheckedLine {
-    /// A line.
-    Sound,
-    /// Nothing.
-    End,
-    /// What isn't a line, and why.
-    Faulty(LogLineFault),
 }
 
 /// Reads a log line by line as `replay_log` does, and takes nothing of it: how many lines it has, or which is
@@ -44,10 +33,10 @@ pub fn check_log<R: BufRead>(alloc: Global, reader: &mut R) -> Result<CheckedLog
         return Err(ReplayFault::OutOfMemory);
     };
     for taken in 0..LINES_LIMIT {
-        match check_line(alloc, reader, &mut line)? {
-            CheckedLine::Sound => {}
-            CheckedLine::End => return Ok(CheckedLog::Whole(taken)),
-            CheckedLine::Faulty(why) => {
+        match next_entry(alloc, reader, &mut line)? {
+            NextEntry::Entry(_) => {}
+            NextEntry::End => return Ok(CheckedLog::Whole(taken)),
+            NextEntry::Faulty(why) => {
                 let number = taken + 1;
                 return Ok(CheckedLog::Faulty { number, why });
             }
@@ -62,40 +51,4 @@ pub fn check_log<R: BufRead>(alloc: Global, reader: &mut R) -> Result<CheckedLog
         return Ok(CheckedLog::Faulty { number, why });
     }
     Ok(CheckedLog::Whole(LINES_LIMIT))
-}
-
-/// Reads what is next, and looks at it.
-fn check_line<R: BufRead>(
-    alloc: Global,
-    reader: &mut R,
-    line: &mut Vec<u8>,
-) -> Result<CheckedLine, ReplayFault>
-    requires { 131072 ≤ vec_capacity line.old }
-    ensures capacity { 131072 ≤ vec_capacity line.new }
-    ensures ok { IfOk result (TellsLine (R.remaining reader.old) (R.remaining reader.new)) }
-    ensures err { IfErr result (StopsLine (R.remaining reader.old) (R.remaining reader.new)) }
-{
-    let Ok(next) = read_line(reader, line) else {
-        return Err(ReplayFault::CannotRead);
-    };
-    match next {
-        NextLine::Whole => check_entry(alloc, line),
-        NextLine::End => Ok(CheckedLine::End),
-        NextLine::TooLong => Ok(CheckedLine::Faulty(LogLineFault::TooLong)),
-        NextLine::NoLineFeed => Ok(CheckedLine::Faulty(line_fault(line))),
-    }
-}
-
-/// What a line with its line feed is.
-fn check_entry(alloc: Global, line: &[u8]) -> Result<CheckedLine, ReplayFault>
-    ensures ok { IfOk result (TellsEntry line.now) }
-    ensures err { IfErr result (λ fault. fault ≡ faults.OutOfMemory) }
-{
-    let Ok(entry) = read_entry(alloc, line) else {
-        return Err(ReplayFault::OutOfMemory);
-    };
-    if entry.is_some() {
-        return Ok(CheckedLine::Sound);
-    }
-    Ok(CheckedLine::Faulty(line_fault(line)))
 }

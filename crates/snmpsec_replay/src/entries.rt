@@ -1,8 +1,7 @@
 //! The entries of a log, one after another.
 
 ghost use Rattle.std.specs.Prelude.{◌≡◌, ◌≤◌, IfOk, IfErr, vec_capacity};
-ghost use Rattle.snmpsec_replay.specs.Checked.{StopsLine};
-ghost use Rattle.snmpsec_replay.specs.Entries.{TellsLineAs, TellsNext};
+ghost use Rattle.snmpsec_replay.specs.Entries.{StopsNext, TellsLineAs, TellsNext};
 ghost use Rattle.snmpsec_replay.specs.declared.fault.ReplayFault.TheVariants as faults;
 
 use crate::fault::ReplayFault;
@@ -34,7 +33,7 @@ pub fn next_entry<R: BufRead>(
     requires { 131072 ≤ vec_capacity line.old }
     ensures capacity { 131072 ≤ vec_capacity line.new }
     ensures ok { IfOk result (TellsNext (R.remaining reader.old) (R.remaining reader.new)) }
-    ensures err { IfErr result (StopsLine (R.remaining reader.old) (R.remaining reader.new)) }
+    ensures err { IfErr result (StopsNext (R.remaining reader.old) (R.remaining reader.new)) }
 {
     let Ok(next) = read_line(reader, line) else {
         return Err(ReplayFault::CannotRead);

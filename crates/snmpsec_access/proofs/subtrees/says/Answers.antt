@@ -1,7 +1,7 @@
 use Rattle.std.proofs.Common.{◌≡◌, ◌+◌, ◌-◌, sym, subst, arith}
 use Rattle.vacm_core.proofs.Exact.{NoneFrom, none_here, longest_is_best}
 use Rattle.snmpsec_access.specs.Rising.{rows_at}
-use Rattle.snmpsec_access.proofs.Deciding.{said_by_best, said_by_none}
+use Rattle.snmpsec_access.proofs.Decides.{said_by_best, said_by_none}
 use Rattle.snmpsec_access.proofs.subtrees.says.Goals as goal
 
 pub loop-left-init : goal.loop-left-init

@@ -1,17 +1,13 @@
-use Rattle.std.proofs.Common.{◌≡◌, ◌||◌, sym, ap, ◌∙◌}
+use Rattle.std.proofs.Common.{List, map, ap, ◌∙◌}
+use Rattle.std.proofs.lemmas.List.{map-append}
 use Rattle.vacm_core.specs.Tables.{tables_of}
-use Rattle.snmpsec_access.specs.Seen.{includes}
-use Rattle.snmpsec_access.specs.Rising.{asker_of, decision_of}
-use Rattle.snmpsec_access.proofs.Seens.{told_on}
-use Rattle.snmpsec_access.proofs.viewer.put_asked.Goals.{then-out, else-out}
+use Rattle.snmpsec_access.specs.declared.viewer.Seen.{Seen}
+use Rattle.snmpsec_access.specs.Rising.{asker_of, decided_of, decision_of}
+use Rattle.snmpsec_access.proofs.Seens.{decided_on}
 use Rattle.snmpsec_access.proofs.viewer.put_asked.Goals as goal
 
 pub returns : goal.returns
 returns c =
-    let decision = decision_of c.in_ok-told.told in
-    let some : c.if-out.out ≡ (c.args.out.now.included || includes decision) =
-    elim c.if-out.branch [
-      | then-out w ↦ w.out-is ∙ w.if-out.true ∙ sym (ap (λ b. b || includes decision) w.if-out.true)
-      | else-out w ↦ w.out-is ∙ w.told_includes-out.ensures ∙ sym (ap (λ b. b || includes decision) w.if-out.false)
-    ] in
-    told_on (tables_of c.args.who.now.rows.now) (asker_of c.args.asking.now) decision c.args.out.now _ c.in_ok-told.ensures c.in_ok-put_told.ensures some
+    let decided = decided_of c.args.asking.now.model c.args.asking.now.name.now in
+    decided_on (tables_of c.args.who.now.rows.now) (asker_of c.args.asking.now) (decision_of c.in_ok-deciding.deciding) (map decided c.args.out.now.items) _ c.in_ok-deciding.ensures
+    (ap (λ (seen : List Seen). map decided seen) c.in_ok-push.ensures.items ∙ map-append decided c.args.out.now.items _)

@@ -1,17 +1,20 @@
-use Rattle.std.proofs.lemmas.Result.{on_ok_weaker}
-use Rattle.snmpsec_access.specs.Askers.{asker}
-use Rattle.snmpsec_access.specs.WhoSees.{SeesIt}
-use Rattle.snmpsec_access.proofs.SeenLines.{sees, sees_not}
+use Rattle.std.proofs.Common.{List, [], ◌∷◌, ◌++◌, map, ap, refl, ◌∙◌}
+use Rattle.std.proofs.lemmas.List.{map-append}
+use Rattle.snmpsec_access.specs.Askers.{Asker, asker}
+use Rattle.snmpsec_access.specs.declared.who.AllowedAsker.{AllowedAsker}
+use Rattle.snmpsec_access.specs.WhoSees.{SeesIt, asker_of}
+use Rattle.snmpsec_access.proofs.Seeing.{sees, sees_not}
 use Rattle.snmpsec_access.proofs.who.put_allowed.Goals as goal
 
-pub returns-then-sees_wanted : goal.returns-then-sees_wanted
-returns-then-sees_wanted c =
-    on_ok_weaker c.put_line.result
-    (sees (SeesIt c.args.wanted.now) (asker c.args.view c.args.group.now c.args.level c.args.context.now) c.args.out.now.items c.put_line.new.out.items
-    (record { wanted = c.requires.wanted; seen = c.if-sees_wanted.ensures }))
-    c.put_line.ensures
+pub returns-then-not-sees_wanted : goal.returns-then-not-sees_wanted
+returns-then-not-sees_wanted c =
+    sees_not (SeesIt c.args.wanted.now) (asker c.args.view c.args.group.now c.args.level c.args.context.now) (map asker_of c.args.out.now.items)
+    (λ may. c.if-not-sees_wanted.ensures may.seen)
 
 pub returns : goal.returns
 returns c =
-    sees_not (SeesIt c.args.wanted.now) (asker c.args.view c.args.group.now c.args.level c.args.context.now) c.args.out.now.items
-    (λ may. c.if-sees_wanted.ensures may.seen)
+    let before = c.args.out.now.items in
+    sees (SeesIt c.args.wanted.now) (asker c.args.view c.args.group.now c.args.level c.args.context.now) (map asker_of before) _
+    (record { wanted = c.requires.wanted; seen = c.if-not-sees_wanted.ensures })
+    (ap (λ (askers : List AllowedAsker). map asker_of askers) c.in_ok-push.ensures.items ∙ map-append asker_of before _
+    ∙ ap (λ (a : Asker). map asker_of before ++ a ∷ []) (rw (c.as_slice.ensures.octets, c.as_slice-2.ensures.octets) refl))

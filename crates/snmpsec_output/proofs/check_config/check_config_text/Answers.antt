@@ -1,10 +1,15 @@
-use Rattle.snmpsec_output.proofs.Checks.{if_counted, if_explained}
+use Rattle.std.proofs.Common.{inl, inr}
+use Rattle.snmpsec_output.proofs.Printed.{of_three}
 use Rattle.snmpsec_output.proofs.check_config.check_config_text.Goals as goal
 
 pub returns-in-Ok : goal.returns-in-Ok
 returns-in-Ok c =
-    if_counted c.counts.result (λ output. output.out.items) (λ output. output.err.items) (λ output. output.status) _ _ _ c.in-Ok.ensures.says c.counts.ensures.out c.counts.ensures.err c.counts.ensures.status
+    let e = c.counts.ensures in
+    of_three c.counts.result (λ output some err status. inl (record { users = _; rows = _; says = c.in-Ok.ensures.says; some = some; err = err; status = status }))
+    e.some e.err e.status
 
 pub returns-in-Err-2 : goal.returns-in-Err-2
 returns-in-Err-2 c =
-    if_explained c.refusal_and_why.result (λ output. output.out.items) (λ output. output.err.items) (λ output. output.status) _ c.in-Err.fault (record { cause = c.in-Err.ensures.refuses; no_memory = c.if-is_memory.ensures }) c.refusal_and_why.ensures.out c.refusal_and_why.ensures.err c.refusal_and_why.ensures.status
+    let e = c.refusal_and_why.ensures in
+    of_three c.refusal_and_why.result (λ output out err status. inr (record { fault = c.in-Err.fault; told = record { cause = c.in-Err.ensures.refuses; no_memory = c.if-is_memory.ensures }; out = out; why = err.0; is_why = err.1; err = err.2; status = status }))
+    e.out e.err e.status

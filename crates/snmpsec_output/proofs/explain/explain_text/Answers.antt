@@ -1,7 +1,14 @@
-use Rattle.snmpsec_output.proofs.Checks.{if_reasoned}
+use Rattle.std.proofs.Common.{inr}
+use Rattle.snmpsec_output.proofs.Printed.{of_three}
 use Rattle.snmpsec_output.proofs.explain.explain_text.Goals as goal
 
 pub returns-in-Ok-read : goal.returns-in-Ok-read
 returns-in-Ok-read c =
-    if_reasoned c.answer_and_rows.result (λ output. output.out.items) (λ output. output.err.items) (λ output. output.status) _ _ _ _ _ _ _ c.in-Ok.ensures.asks c.in-Ok-read.ensures.says
-    (c.in-Ok-read.ensures.decides _ _ _ _ c.decide-explained.ensures.answer) c.decide-explained.ensures.steps c.answer_and_rows.ensures.out c.answer_and_rows.ensures.err c.answer_and_rows.ensures.status
+    let e = c.answer_and_rows.ensures in
+    let allowed = c.in-Ok-read.ensures.decides _ _ _ _ c.decide-explained.ensures in
+    of_three c.answer_and_rows.result (λ output out err status. inr (
+      _,
+      c.in-Ok.ensures.asks,
+      inr (_, _, c.in-Ok-read.ensures.says, record { answer = _; allowed = allowed; decided = out.0; out = out.1; err = err; status = status }),
+    ))
+    e.out e.err e.status

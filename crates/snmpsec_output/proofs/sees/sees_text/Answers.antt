@@ -1,6 +1,7 @@
+use Rattle.std.proofs.Common.{inr}
 use Rattle.vacm_core.specs.Tables.{tables_of}
 use Rattle.vacm_core.proofs.Uniqueness.{one_row_each}
-use Rattle.snmpsec_output.proofs.Seens.{if_seen}
+use Rattle.snmpsec_output.proofs.Printed.{of_two}
 use Rattle.snmpsec_output.proofs.sees.sees_text.Goals as goal
 
 pub list_seen-requires-clause-one_each : goal.list_seen-requires-clause-one_each
@@ -8,6 +9,11 @@ list_seen-requires-clause-one_each c = one_row_each (tables_of c.in-Ok.config.ro
 
 pub returns-in-Ok : goal.returns-in-Ok
 returns-in-Ok c =
-    rw (← c.as_bytes.ensures.value)
-    (if_seen c.list_seen.result (λ output. output.out.items) (λ output. output.err.items) (λ output. output.status) _ _ _ c.in-Some.number
-    (record { some = c.in-Some.ensures.found.0; most = c.in-Some.ensures.found.1; text = c.in-Some.ensures.found.2 }) _ _ c.in-Ok.ensures.says c.list_seen.ensures.out c.list_seen.ensures.err)
+    let e = c.list_seen.ensures in
+    let found = c.in-Some.ensures.found in
+    rw (← c.as_bytes.ensures.value) (of_two c.list_seen.result (λ output seen err. inr (
+      _,
+      record { some = found.0; most = found.1; text = found.2 },
+      inr (record { users = _; rows = _; says = c.in-Ok.ensures.says; decisions = seen.0; are = seen.1; err = err; status = seen.2 }),
+    ))
+    e.seen e.err)

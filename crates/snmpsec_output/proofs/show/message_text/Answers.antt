@@ -1,12 +1,11 @@
-use Rattle.std.proofs.Common.{◌≡◌, ◌++◌, refl, rules}
+use Rattle.std.proofs.Common.{◌≡◌, ◌++◌, ◌∙◌, refl, rules}
 use Rattle.std.specs.Prelude.{string_bytes, codes}
 use Rattle.hex.specs.Hex.{encode_lower}
 use Rattle.snmp_msg.specs.Canonical.{whole_of, whole_text}
 use Rattle.snmp_message.specs.declared.refused_at.RefusedAt.{RefusedAt}
 use Rattle.snmp_msg.proofs.Canonicals.{refused_as}
 use Rattle.snmpsec_output.specs.Show.{shown_text, RefusesShow}
-use Rattle.snmpsec_output.specs.Names.{IsNamed}
-use Rattle.snmpsec_output.proofs.NamedLines.{named_as, named_shown}
+use Rattle.snmpsec_output.specs.Lines.{IsUnnamed}
 use Rattle.snmpsec_output.proofs.Shows.{write_refused}
 use Rattle.snmpsec_output.proofs.show.message_text.Goals as goal
 
@@ -22,6 +21,6 @@ returns c =
     let text = string_bytes c.in_ok-text.text in
     let digits = encode_lower (whole_text (whole_of c.in_ok-layers.layers)) in
     let printed : text ≡ string_bytes c.in_ok-message.message ++ (string_bytes c.in_ok-contents.contents ++ (codes "canonical " ++ (digits ++ codes "\n"))) = search rules in
-    let lines : IsNamed c.args.names (shown_text c.in_ok-layers.layers) text =
-    named_as c.args.names _ _ _ _ refl printed (named_shown c.args.names _ _ _ _ digits c.in_ok-message.ensures c.in_ok-contents.ensures) in
+    let lines : IsUnnamed c.args.names (shown_text c.in_ok-layers.layers) text =
+    λ none. printed ∙ rw (c.in_ok-message.ensures none, c.in_ok-contents.ensures none) refl in
     record { usm = c.in_ok-layers.ensures.exact.0; layers = c.in_ok-layers.layers; says = c.in_ok-layers.ensures.exact.1; lines = lines }

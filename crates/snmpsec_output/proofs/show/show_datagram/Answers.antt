@@ -1,7 +1,10 @@
-use Rattle.snmpsec_output.proofs.Shows.{if_told}
+use Rattle.std.proofs.Common.{inr}
+use Rattle.snmpsec_output.proofs.Printed.{of_four}
 use Rattle.snmpsec_output.proofs.show.show_datagram.Goals as goal
 
 pub returns-in-Err : goal.returns-in-Err
 returns-in-Err c =
-    if_told c.refused_output.result (λ output. output.out.items) (λ output. output.err.items) (λ output. output.status) c.args.names c.args.datagram.now c.in-Err.refused
-    c.in-Err.ensures c.refused_output.ensures.no_memory c.refused_output.ensures.line c.refused_output.ensures.err c.refused_output.ensures.status
+    let e = c.refused_output.ensures in
+    of_four c.refused_output.result
+    (λ output no_memory out err status. inr (record { told = c.in-Err.refused; cause = c.in-Err.ensures; no_memory = no_memory; out = out; err = err; status = status }))
+    e.no_memory e.line e.err e.status

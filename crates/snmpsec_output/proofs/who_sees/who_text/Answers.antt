@@ -1,6 +1,7 @@
+use Rattle.std.proofs.Common.{inr}
 use Rattle.vacm_core.specs.Tables.{tables_of}
 use Rattle.vacm_core.proofs.Uniqueness.{one_row_each}
-use Rattle.snmpsec_output.proofs.Whos.{if_listed}
+use Rattle.snmpsec_output.proofs.Printed.{of_two}
 use Rattle.snmpsec_output.proofs.who_sees.who_text.Goals as goal
 
 pub list_askers-requires-clause-answers : goal.list_askers-requires-clause-answers
@@ -11,5 +12,11 @@ list_askers-requires-clause-answers c = record {
 
 pub returns-in-Ok-read : goal.returns-in-Ok-read
 returns-in-Ok-read c =
-    if_listed c.list_askers.result (λ output. output.out.items) (λ output. output.err.items) (λ output. output.status) _ _ _ _ _ _ c.in-Ok.ensures.asks _ _ c.in-Ok-read.ensures.says
-    c.list_askers.ensures.out c.list_askers.ensures.err c.list_askers.ensures.status
+    let e = c.list_askers.ensures in
+    of_two c.list_askers.result (λ output listed err. inr (
+      _,
+      _,
+      c.in-Ok.ensures.asks,
+      inr (record { users = _; rows = _; says = c.in-Ok-read.ensures.says; seeing = listed.0; are = listed.1; none = listed.2; err = err; status = listed.3 }),
+    ))
+    e.listed e.err

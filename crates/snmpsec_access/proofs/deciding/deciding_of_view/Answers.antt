@@ -1,7 +1,7 @@
 use Rattle.std.proofs.Common.{◌≡◌, ◌≢◌, length, arith}
 use Rattle.snmpsec_access.specs.Rising.{rows_at}
 use Rattle.snmpsec_access.proofs.Kepts.{no_rows, some_rows, no_view, one_each_of, told_kept}
-use Rattle.snmpsec_access.proofs.told.told_of_view.Goals as goal
+use Rattle.snmpsec_access.proofs.deciding.deciding_of_view.Goals as goal
 
 pub returns-then-is_empty : goal.returns-then-is_empty
 returns-then-is_empty c =
