@@ -20,7 +20,7 @@ use Rattle.snmp_requests.specs.RequestRuns.{IsRequestRun, accepts}
 use Rattle.snmp_requests.specs.declared.answered.AnsweredRequest.{AnsweredRequest}
 use Rattle.snmp_requests.specs.declared.device_request.SentMessage.{SentMessage}
 use Rattle.snmp_agent.specs.Agent.{AgentState}
-use Rattle.snmp_gate.specs.History.{IsToldAgain, accepted, asked, sent, told_in, waiting_in}
+use Rattle.snmp_gate.specs.History.{IsCauseFor, IsToldAgain, accepted, asked, sent, told_in, waiting_in}
 use Rattle.snmp_gate.specs.Lawful.{AreLawful, IsSetRequest, WasAsked}
 use Rattle.snmp_gate.specs.Limits.{AlwaysKeepsTo, MustBeShort, WaitInTime, asks_since}
 use Rattle.snmp_gate.specs.Messages.{question_in}
@@ -133,7 +133,7 @@ pub no_set_is_done : (agent : AgentState) (devices : List Device) (number now : 
 no_set_is_done agent devices number now index datagram message by answer set first others asks tag some says lawful =
     let before = accepted number now datagram message ∷ [] in
     let mediated = lawful.0.mediated in
-    elim (done_so agent.tables set (told_in number before) mediated.1.0 by message.kept answer (record { status = NO_ERROR; index = index }) tag says refl (IsToldAgain before number message) mediated.1.1 (mediated.1.2 set asks)) [
+    elim (done_so agent.tables set (told_in number before) mediated.1.0 (IsCauseFor agent.engine agent.tables devices before number set) by message.kept answer (record { status = NO_ERROR; index = index }) tag says refl (IsToldAgain before number message) mediated.1.1 (mediated.1.2 set asks)) [
       | inl empty ↦ nil_cons first others (sym empty ∙ some)
       | inr (inl device) ↦ none_there device.exchange device.there
       | inr (inr again) ↦ accepted_alone number now again.told.number datagram message again.told.message again.told.by again.told.answer again.told.there

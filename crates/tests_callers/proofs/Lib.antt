@@ -7,3 +7,11 @@ mod Seen
 mod Served
 mod Notified
 mod Impossible
+mod Uncaused
+mod HandleTakes
+mod BegunHandles
+mod AgentHandles
+mod HandleAnswers
+mod GateServed
+mod ForwardServed
+mod HandleHidden

@@ -1,16 +1,17 @@
 -- What is reported of a request has nothing hidden, and what is asked neither.
-use Rattle.std.specs.Prelude.{◌≡◌, ◌⊎◌, ◌<◌, ℕ, pos, List, All, Contains, Option, slice_index_or}
+use Rattle.std.specs.Prelude.{◌≡◌, ◌⊎◌, ◌<◌, ℕ, Bool, pos, List, All, Contains, Option, slice_index_or}
 use Rattle.std.specs.Global.{Vec}
 use Rattle.std.proofs.Common.{inl, inr, sym, subst, arith}
 use Rattle.std.proofs.lemmas.List.Elements.{All-weaker, All-contains_itself, AllZip-get_or, length_all_zip}
 use Rattle.snmp_msg.specs.Variables.{Variable, variables_of}
 use Rattle.snmp_msg.specs.declared.pdu_type.PduType.TheVariants.{GetNextRequest}
 use Rattle.vacm_core.specs.Tables.{Tables}
+use Rattle.snmp_agent.specs.declared.unhandled.Unhandled.{Unhandled}
 use Rattle.snmp_incoming.specs.Outcome.{Given}
 use Rattle.snmp_walk.specs.Column.{MayShow}
 use Rattle.snmp_walk.specs.declared.operation.ReadOperation.{ReadOperation}
 use Rattle.snmp_walk.specs.declared.operation.ReadOperation.TheVariants.{Get, GetNext}
-use Rattle.snmp_gate.specs.History.{Happening, MayAskFor, MayAskName, reads, bulk, sets, told_in}
+use Rattle.snmp_gate.specs.History.{Happening, IsCauseFor, MayAskFor, MayAskName, reads, bulk, sets, told_in}
 use Rattle.gateway_laws.specs.Requests.{RequestPdu}
 use Rattle.snmp_gate.specs.DeviceMessages.{IsRequestFor}
 use Rattle.snmp_gate.specs.Messages.{seen_in, set_in}
@@ -18,6 +19,7 @@ use Rattle.snmp_gate.specs.Question.{Question}
 use Rattle.snmp_gate.specs.Replies.{Answering, ClientAnswer, IsAnswerTo, IsReported, IsSent, MayTellBulk, MayTellValues, Told, answer_with, columns, front, set}
 use Rattle.snmp_gate.specs.Said.{Said}
 use Rattle.snmp_gate.specs.Waiting.{Fresh, SendHappens, answering_at}
+use Rattle.snmp_gate.specs.declared.work.EndedBy.{EndedBy}
 use Rattle.snmp_gate.specs.declared.devices.Device.{Device as DeviceIs}
 use Rattle.snmp_gate.specs.declared.gate.Gate.{Gate}
 use Rattle.snmp_gate.specs.declared.gate.Sent.{Sent}
@@ -57,31 +59,32 @@ asks tables d q said id r datagram (sets community write tag same each ask) =
     hidden.sets community id (variables_of q.list) write (subst (IsRequestFor datagram community.items id) same ask)
     (subst (λ (x : RequestPdu). All (λ (v : Variable). set_in tables q v.name) x.variables) same each)
 
-answers : (by : Answering) (tables : Tables) (q : Question) (said : Said) (again : Option ResponseStatus) (g : Given) (answer : ClientAnswer) → IsAnswerTo by tables q said again g answer → IsReported by g answer.datagram ⊎ ((told : Told) × IsSent by g told answer.datagram × All (IsOwnOrSeen (seen_in tables q) (variables_of q.list) said.variables) told.variables)
-answers by tables q said again g answer (inr report) = inl report.0
-answers by tables q said again g answer (inl (told, sent, (status, inl (none, may)))) = inr (told, sent.0, values tables q said told.variables may)
-answers by tables q said again g answer (inl (told, sent, (status, inr (inl (some, own))))) = inr (told, sent.0, of_own tables q said.variables told.variables own)
-answers by tables q said again g answer (inl (told, sent, (status, inr (inr (big, none))))) = inr (told, sent.0, subst (All (IsOwnOrSeen (seen_in tables q) (variables_of q.list) said.variables)) (sym none) (λ k d lt. absurd (omega (arith, lt))))
+answers : (by : Answering) (tables : Tables) (q : Question) (said : Said) (again : Option ResponseStatus) (Cause : Unhandled → Type 0) (g : Given) (answer : ClientAnswer) → IsAnswerTo by tables q said again Cause g answer
+    → ((why : Unhandled) × IsReported by g why answer.datagram) ⊎ ((told : Told) × IsSent by g told answer.datagram × All (IsOwnOrSeen (seen_in tables q) (variables_of q.list) said.variables) told.variables)
+answers by tables q said again Cause g answer (inr (why, cause, report)) = inl (why, report.0)
+answers by tables q said again Cause g answer (inl (told, sent, (status, inl (none, may)))) = inr (told, sent.0, values tables q said told.variables may)
+answers by tables q said again Cause g answer (inl (told, sent, (status, inr (inl (some, own))))) = inr (told, sent.0, of_own tables q said.variables told.variables own)
+answers by tables q said again Cause g answer (inl (told, sent, (status, inr (inr (big, none))))) = inr (told, sent.0, subst (All (IsOwnOrSeen (seen_in tables q) (variables_of q.list) said.variables)) (sym none) (λ k d lt. absurd (omega (arith, lt))))
 
-client_shown : (old new : Gate) (now : ℕ) (before : List Happening) (f : Fresh) (number : ℕ) (to : Vec ℕ) (says : Option ResponseStatus) (datagram : Vec ℕ) → SendHappens old now before f (out.ToClient number to says datagram) new → KeepsHidden old before (Client to datagram)
-client_shown old new now before f number to says datagram (m, same, happens) =
+client_shown : (old new : Gate) (now : ℕ) (before : List Happening) (f : Fresh) (number : ℕ) (to : Vec ℕ) (says : Option ResponseStatus) (datagram : Vec ℕ) (ended : EndedBy) → SendHappens old now before f (out.ToClient number to says datagram ended) new → KeepsHidden old before (Client to datagram)
+client_shown old new now before f number to says datagram ended (m, same, happens) =
     let mediated = happens.lawful.mediated in
-    (number, m, answering_at old now f.salt, same, mediated.0, λ q asks. answers (answering_at old now f.salt) old.agent.tables q (told_in number before) mediated.1.0 m.kept (answer_with says datagram) (mediated.1.2 q asks))
+    (number, m, answering_at old now f.salt, same, mediated.0, λ q asks. answers (answering_at old now f.salt) old.agent.tables q (told_in number before) mediated.1.0 (IsCauseFor old.agent.engine old.agent.tables old.devices.list.items before number q) m.kept (answer_with says datagram) (mediated.1.2 q asks))
 
-pub to_client : (old new : Gate) (now : ℕ) (before : List Happening) (f : Fresh) (sent : Sent) (number : ℕ) (to : Vec ℕ) (says : Option ResponseStatus) (datagram : Vec ℕ) → sent ≡ out.ToClient number to says datagram → SendHappens old now before f sent new → KeepsHidden old before (Client to datagram)
-to_client old new now before f sent number to says datagram is happens =
-    client_shown old new now before f number to says datagram (subst (λ s. SendHappens old now before f s new) is happens)
+pub to_client : (old new : Gate) (now : ℕ) (before : List Happening) (f : Fresh) (sent : Sent) (number : ℕ) (to : Vec ℕ) (says : Option ResponseStatus) (datagram : Vec ℕ) (ended : EndedBy) → sent ≡ out.ToClient number to says datagram ended → SendHappens old now before f sent new → KeepsHidden old before (Client to datagram)
+to_client old new now before f sent number to says datagram ended is happens =
+    client_shown old new now before f number to says datagram ended (subst (λ s. SendHappens old now before f s new) is happens)
 
-device_asked : (old new : Gate) (now : ℕ) (before : List Happening) (f : Fresh) (number to : ℕ) (datagram : Vec ℕ) → SendHappens old now before f (out.ToDevice number to datagram) new → KeepsHidden old before (Device to datagram)
-device_asked old new now before f number to datagram (id, request, from, happens) =
+device_asked : (old new : Gate) (now : ℕ) (before : List Happening) (f : Fresh) (number to : ℕ) (datagram : Vec ℕ) (again : Bool) → SendHappens old now before f (out.ToDevice number to datagram again) new → KeepsHidden old before (Device to datagram)
+device_asked old new now before f number to datagram again (id, request, from, happens) =
     let mediated = happens.lawful.mediated in (
       number,
       mediated.0,
       mediated.1,
       mediated.2,
-      λ d. asks old.agent.tables (slice_index_or old.devices.list.items to d) mediated.0 (told_in number before) id request datagram.items (mediated.3 d).0,
+      λ d. asks old.agent.tables (slice_index_or old.devices.list.items to d) mediated.0 (told_in number before) id request datagram.items (mediated.3 d).0.0,
     )
 
-pub to_device : (old new : Gate) (now : ℕ) (before : List Happening) (f : Fresh) (sent : Sent) (number to : ℕ) (datagram : Vec ℕ) → sent ≡ out.ToDevice number to datagram → SendHappens old now before f sent new → KeepsHidden old before (Device to datagram)
-to_device old new now before f sent number to datagram is happens =
-    device_asked old new now before f number to datagram (subst (λ s. SendHappens old now before f s new) is happens)
+pub to_device : (old new : Gate) (now : ℕ) (before : List Happening) (f : Fresh) (sent : Sent) (number to : ℕ) (datagram : Vec ℕ) (again : Bool) → sent ≡ out.ToDevice number to datagram again → SendHappens old now before f sent new → KeepsHidden old before (Device to datagram)
+to_device old new now before f sent number to datagram again is happens =
+    device_asked old new now before f number to datagram again (subst (λ s. SendHappens old now before f s new) is happens)

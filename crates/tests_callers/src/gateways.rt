@@ -35,11 +35,13 @@ pub fn send(gate: &mut Gate, now: u64, salt: [u8; 8], ask_id: u32) -> Result<Out
             client,
             says: _,
             datagram,
+            ended: _,
         } => Ok(Out::Client(client, datagram)),
         Sent::ToDevice {
             number: _,
             device,
             datagram,
+            again: _,
         } => Ok(Out::Device(device, datagram)),
         Sent::Unanswered { .. } | Sent::GivenUp { .. } | Sent::Nothing => Ok(Out::Nothing),
     }

@@ -1,7 +1,10 @@
 //! Histories that the laws must refuse, so that a definition which gets too wide is seen here. Each function does
 //! nothing: its contract is that no such history is lawful.
 
-ghost use Rattle.std.specs.Prelude.{◌≡◌, ◌≢◌, ◌+◌, ◌*◌, ◌<◌, ◌≤◌, ℕ, ℤ, List, [], ◌∷◌, Some, length, max};
+ghost use Rattle.std.specs.Prelude.{◌≡◌, ◌≢◌, ◌+◌, ◌*◌, ◌<◌, ◌≤◌, ℕ, ℤ, List, [], ◌∷◌, None, Some, length, max, true};
+ghost use Rattle.std.specs.Prelude.{Option as OptionIs};
+ghost use Rattle.snmp_message.specs.declared.refusal.Refusal.{Refusal as RefusalIs};
+ghost use Rattle.std.specs.List.{HoldsAt};
 ghost use Rattle.snmp_message.specs.Scoped.{Contexts};
 ghost use Rattle.snmp_incoming.specs.Outcome.{Given};
 ghost use Rattle.snmp_manager.specs.Views.{Held};
@@ -11,18 +14,23 @@ ghost use Rattle.snmp_requests.specs.Outstanding.{Outstanding, none_outstanding}
 ghost use Rattle.snmp_requests.specs.RequestRuns.{IsRequestRun, accepts};
 ghost use Rattle.snmp_requests.specs.declared.answered.AnsweredRequest.{AnsweredRequest};
 ghost use Rattle.snmp_requests.specs.declared.device_request.SentMessage.{SentMessage};
+ghost use Rattle.vacm_core.specs.Allowed.{HasContext};
 ghost use Rattle.snmp_agent.specs.Agent.{AgentState};
+ghost use Rattle.snmp_agent.specs.Dispatch.{IsCommand};
+ghost use Rattle.snmp_agent.specs.declared.unhandled.Unhandled.{Unhandled};
 ghost use Rattle.snmp_msg.specs.Pdu.{PduParts};
 ghost use Rattle.snmp_msg.specs.PduTypes.{pdu_tag};
 ghost use Rattle.snmp_msg.specs.Variables.{Variable, variables_of};
 ghost use Rattle.snmp_msg.specs.declared.pdu_type.PduType.TheVariants.{SetRequest};
 ghost use Rattle.gateway_laws.specs.Requests.{RequestPdu};
-ghost use Rattle.snmp_gate.specs.History.{accepted, answered, asked, sent, unanswered};
+ghost use Rattle.snmp_gate.specs.Devices.{IsKnownContext};
+ghost use Rattle.snmp_gate.specs.History.{Happening, accepted, answered, asked, given_up, sent, unanswered};
 ghost use Rattle.snmp_gate.specs.Lawful.{AreLawful};
 ghost use Rattle.snmp_gate.specs.Limits.{AlwaysKeepsTo, MustBeShort, WaitInTime};
 ghost use Rattle.snmp_gate.specs.Messages.{question_in};
 ghost use Rattle.snmp_gate.specs.Question.{Question};
 ghost use Rattle.snmp_gate.specs.Replies.{Answering, ClientAnswer};
+ghost use Rattle.snmp_gate.specs.Unanswered.{HasNoReport, HasNoRoom};
 ghost use Rattle.snmp_gate.specs.declared.devices.Device.{Device};
 ghost use Rattle.snmp_gate.specs.declared.limits.GateLimits.{GateLimits};
 ghost use Rattle.snmp_gate.specs.declared.reply.TheConstants.{SHORT_ANSWER};
@@ -34,6 +42,8 @@ ghost use Rattle.snmp_forward.specs.declared.inform.Inform.{Inform};
 ghost use Rattle.snmp_forward.specs.declared.receivers.Receiver.{Receiver};
 ghost use Rattle.snmp_forward.specs.declared.sealing.Sealing.{Sealing};
 
+use snmp_gate::{a_message_without_an_answer_has_its_cause, a_report_has_its_cause};
+
 /// A gateway does nothing by itself: no message is answered (`sent`), or left without an answer (`unanswered`), before
 /// one was accepted; no device is asked before (`asked`); and no answer is taken before a device was asked
 /// (`answered`).
@@ -41,7 +51,8 @@ pub fn no_gateway_begins_by_itself()
     ensures sent { (agent : AgentState) (devices : List Device) (number : ℕ) (message : WaitingMessage)
         (by : Answering) (answer : ClientAnswer) → ¬ AreLawful agent devices (sent number message by answer ∷ []) }
     ensures unanswered { (agent : AgentState) (devices : List Device) (number : ℕ) (message : WaitingMessage)
-        → ¬ AreLawful agent devices (unanswered number message ∷ []) }
+        (by : Answering) (why : OptionIs RefusalIs)
+        → ¬ AreLawful agent devices (unanswered number message by why ∷ []) }
     ensures asked { (agent : AgentState) (devices : List Device) (number device id : ℕ) (request : RequestPdu)
         (datagram : List ℕ) → ¬ AreLawful agent devices (asked number device id request datagram ∷ []) }
     ensures answered { (agent : AgentState) (devices : List Device) (number device : ℕ) (answer : PduParts)
@@ -93,8 +104,47 @@ pub fn no_set_is_done_by_itself()
         → ¬ AreLawful agent devices (sent number message by answer ∷ accepted number now datagram message ∷ []) }
 {}
 
-/// No message waits for longer than all tries and `last` take (`waits`), and none without authentication is answered at
-/// length (`answers`).
+/// No Report is sent on a command in a context that is known, before it is given up (`answered`), and none on a Set
+/// (`set`).
+pub fn no_report_is_made_up()
+    ensures answered { (agent : AgentState) (devices : List Device) (number now : ℕ) (datagram : List ℕ)
+        (message : WaitingMessage) (by : Answering) (answer : ClientAnswer) (q : Question)
+        → question_in message ≡ Some q → q.engine ≡ agent.engine → IsCommand q.tag
+        → HasContext agent.tables.contexts q.context → IsKnownContext devices q.context → answer.says ≡ None
+        → ¬ AreLawful agent devices (sent number message by answer ∷ accepted number now datagram message ∷ []) }
+    ensures set { (agent : AgentState) (devices : List Device) (number device now : ℕ) (datagram : List ℕ)
+        (message : WaitingMessage) (by : Answering) (answer : ClientAnswer) (q : Question)
+        → question_in message ≡ Some q → q.engine ≡ agent.engine → q.tag ≡ pdu_tag SetRequest
+        → HasContext agent.tables.contexts q.context → IsKnownContext devices q.context → answer.says ≡ None
+        → ¬ AreLawful agent devices (sent number message by answer ∷ given_up number device
+        ∷ accepted number now datagram message ∷ []) }
+{
+    a_report_has_its_cause();
+}
+
+/// No command in a context that is known is left without an answer that has room for one: before it is given up
+/// (`answered`), and where `report_unreachable` is on, but for a Set, behind that (`given_up`).
+pub fn no_message_is_dropped()
+    ensures answered { (limits : GateLimits) (devices : List Device) (number now : ℕ) (datagram : List ℕ)
+        (message : WaitingMessage) (by : Answering) (q : Question)
+        → question_in message ≡ Some q → q.engine ≡ by.agent.engine → IsCommand q.tag
+        → HasContext by.agent.tables.contexts q.context → IsKnownContext devices q.context
+        → ((limit : ℕ) → ¬ HasNoRoom by limit message.kept)
+        → ¬ AlwaysKeepsTo limits devices (unanswered number message by None ∷ accepted number now datagram message
+        ∷ []) }
+    ensures given_up { (limits : GateLimits) (devices : List Device) (number device now : ℕ) (datagram : List ℕ)
+        (message : WaitingMessage) (by : Answering) (q : Question)
+        → question_in message ≡ Some q → q.tag ≢ pdu_tag SetRequest → limits.report_unreachable ≡ true
+        → ((limit : ℕ) → ¬ HasNoRoom by limit message.kept)
+        → ((limit : ℕ) (cause : Unhandled) → ¬ HasNoReport by limit message.kept cause)
+        → ¬ AlwaysKeepsTo limits devices (unanswered number message by None ∷ given_up number device
+        ∷ accepted number now datagram message ∷ []) }
+{
+    a_message_without_an_answer_has_its_cause();
+}
+
+/// No message waits for longer than all tries and `last` take (`waits`), none without authentication is answered at
+/// length (`answers`), and no device is asked for more repetitions than it is configured for (`repetitions`).
 pub fn no_limit_is_passed()
     ensures waits { (limits : GateLimits) (number at now : ℕ) (datagram : List ℕ) (message : WaitingMessage)
         → at + limits.retries.last + max 1 limits.retries.tries * limits.retries.again ≤ now
@@ -104,6 +154,10 @@ pub fn no_limit_is_passed()
         → MustBeShort limits message.kept.level → 2 * length datagram < length answer.datagram
         → SHORT_ANSWER < length answer.datagram
         → ¬ AlwaysKeepsTo limits devices (sent number message by answer ∷ accepted number now datagram message ∷ []) }
+    ensures repetitions { (agent : AgentState) (devices : List Device) (number device id : ℕ) (request : RequestPdu)
+        (datagram : List ℕ) (before : List Happening)
+        → HoldsAt (λ d. d.repetitions < request.max_repetitions) devices device
+        → ¬ AreLawful agent devices (asked number device id request datagram ∷ before) }
 {}
 
 /// A forwarder sends no notification to one receiver twice.

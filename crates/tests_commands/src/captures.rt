@@ -2,8 +2,9 @@
 
 use super::streams::{Calls, Choppy, Slow};
 use capture_datagrams::datagrams::Unread;
-use capture_datagrams::forms::{Form, ReadOptions, datagrams_of};
+use capture_datagrams::forms::{Form, ReadOptions, print_datagrams};
 use capture_datagrams::printout::{Printout, write_printout};
+use capture_files::Lines;
 use std::alloc::{AllocError, Global};
 use std::test::Fail;
 
@@ -51,7 +52,7 @@ fn read_capture(
         ports,
         name: "c",
     };
-    without_memory_faults(datagrams_of(alloc, asked, reader, log, notes))
+    without_memory_faults(print_datagrams(alloc, asked, &mut Lines, reader, log, notes))
 }
 
 const SNMP: [u16; 2] = [161, 162];

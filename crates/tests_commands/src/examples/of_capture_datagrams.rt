@@ -1,5 +1,6 @@
 //! `capture_datagrams`: pasted hex as a line of a log.
-use capture_datagrams::forms::{ReadOptions, datagrams_of};
+use capture_datagrams::forms::{ReadOptions, print_datagrams};
+use capture_files::Lines;
 use std::test::Fail;
 
 #[test]
@@ -13,7 +14,14 @@ fn pasted_hex_is_a_line_of_a_log(rt: HostRuntime) -> Result<(), Fail> {
     let mut file = b"30 03 02 01 03".as_slice();
     let mut log: Vec<u8> = Vec::new(rt.alloc());
     let mut notes: Vec<u8> = Vec::new(rt.alloc());
-    let status = datagrams_of(rt.alloc(), asked, &mut file, &mut log, &mut notes)?;
+    let status = print_datagrams(
+        rt.alloc(),
+        asked,
+        &mut Lines,
+        &mut file,
+        &mut log,
+        &mut notes,
+    )?;
     assert_eq!(rt; status, 0);
     assert_eq!(rt; log.as_slice(), b"1700000000 3003020103\n".as_slice());
     Ok(())

@@ -1,5 +1,5 @@
 //! `gate_handles`: a gateway behind a handle is made of a configuration's text.
-use gate_handles::{GateEvent, GateHandle, GateText, event_code_of};
+use gate_handles::{GateEvent, GateHandle, GateText};
 use std::alloc::Global;
 use std::test::Fail;
 
@@ -15,14 +15,13 @@ fn has_address(gate: &GateHandle) -> bool {
     told.is_ok() && written == 12 && out.starts_with(b"10.1.0.7:161")
 }
 
-/// Whether the device has its address, whether what isn't a message is taken, and what is due then, twice.
-type Told = (bool, bool, i32, GateEvent);
+/// Whether the device has its address, whether what isn't a message is taken, and what is due then, and its number.
+type Told = (bool, bool, u32, GateEvent);
 
 fn told_by(gate: &mut GateHandle) -> Result<Told, Fail> {
     let is_taken = gate.take_client(1000, b"client", b"no message").is_ok();
-    let code = event_code_of(gate.next(1000, 1, 1));
-    let event = gate.next(1000, 2, 2)?;
-    Ok((has_address(gate), is_taken, code, event))
+    let event = gate.next(1000, 1, 1)?;
+    Ok((has_address(gate), is_taken, event.number(), event))
 }
 
 fn told(alloc: Global) -> Result<Told, Fail> {
@@ -34,8 +33,8 @@ fn told(alloc: Global) -> Result<Told, Fail> {
 
 #[test]
 fn a_gateway_is_made_of_a_text(rt: HostRuntime) -> Result<(), Fail> {
-    let (has_address, is_taken, code, event) = told(rt.alloc())?;
+    let (has_address, is_taken, number, event) = told(rt.alloc())?;
     assert!(rt; has_address && !is_taken);
-    assert_eq!(rt; (code, event), (0, GateEvent::Nothing));
+    assert_eq!(rt; (number, event), (0, GateEvent::Nothing));
     Ok(())
 }

@@ -8,7 +8,7 @@ pub returns-clause-sent : goal.returns-clause-sent
 returns-clause-sent c agent devices number message by answer = nothing_is_sent agent devices number message by answer
 
 pub returns-clause-unanswered : goal.returns-clause-unanswered
-returns-clause-unanswered c agent devices number message lawful = cc (lawful.0.in_turn.1)
+returns-clause-unanswered c agent devices number message by why lawful = cc (lawful.0.in_turn.1)
 
 pub returns-clause-asked : goal.returns-clause-asked
 returns-clause-asked c agent devices number device id request datagram lawful =
