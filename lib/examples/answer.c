@@ -184,8 +184,9 @@ static int respond_bulk(uint64_t now, uint32_t limit) {
 /* A SetRequest is looked at for its size before anything is set, with the longest error-status and error-index (RFC
  * 3416, section 4.2.5). */
 static bool set_is_too_big(uint64_t now, const uint8_t *octets, size_t octets_len, uint32_t limit) {
-    return snmpsec_agent_respond_within(agent, now, GREATEST, GREATEST, octets, octets_len, new_salt(),
-                                        limit) == SNMPSEC_TOO_LARGE;
+    size_t count = 0;
+    int answer = snmpsec_agent_fits(agent, now, GREATEST, GREATEST, octets, octets_len, limit, &count);
+    return answer == SNMPSEC_TOO_LARGE || (!answer && (long)count < asked_of(octets, octets_len));
 }
 
 /* Answers what is kept, in at most so many octets: the Response is the message to be sent. */

@@ -334,7 +334,6 @@ static void replace_gate(struct gateway *gateway, snmpsec_gate *gate, uint32_t b
     gateway->boots = boots;
     snmpsec_gate_free(gateway->gate);
     gateway->gate = gate;
-    gateway->agent = (snmpsec_counts){0};
     waiting_clear();
     (void)watch_devices(gateway);
 }

@@ -42,8 +42,6 @@ struct gateway {
     /* a call found no memory, and nothing is promised of the gateway any more */
     bool out_of_memory;
     struct counts counts;
-    /* the agent's counters when a message was last looked for in them */
-    snmpsec_counts agent;
 };
 
 /* What a socket of the poll is. */

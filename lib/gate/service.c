@@ -118,8 +118,7 @@ static void note_begun(struct gateway *gateway, const snmpsec_gate_info *info, c
                        size_t len) {
     uint8_t user[MOST_USER], context[MOST_CONTEXT];
     size_t context_len = 0;
-    waiting_begins(info->request, client, user, user_of(len, user),
-                   info->pdu == SNMPSEC_SET_REQUEST ? digest_of(datagram, len) : 0);
+    waiting_begins(info->request, client, user, user_of(len, user));
     int answer = snmpsec_gate_context(gateway->gate, info->request, context, sizeof context, &context_len);
     if (!answer || answer == SNMPSEC_SHORT_BUFFER) waiting_context(info->request, context, context_len);
 }
@@ -232,7 +231,6 @@ static void note_answer(struct gateway *gateway, uint64_t now, struct device *de
     if (snmpsec_gate_numbers(gateway->gate, &info) || !pdu_of(datagram, len, &pdu)) return;
     gateway->counts.statuses[pdu.status < STATUSES ? pdu.status : STATUSES]++;
     gateway->counts.hidden_bindings += info.hidden;
-    waiting_answers(info.request, &pdu, info.misfit == SNMPSEC_MISFIT_NONE);
     const struct waiting *request = waiting_of(info.request);
     if (info.misfit && info.misfit < MISFITS) {
         gateway->counts.misfits[info.misfit]++;
@@ -309,8 +307,8 @@ static void send_device(struct gateway *gateway, const snmpsec_gate_info *info, 
     struct pdu pdu;
     if (info->device >= gateway->devices_len) { gateway->counts.unsent++; return; }
     struct device *device = &gateway->devices[info->device];
-    bool is_again = pdu_of(message, len, &pdu) && waiting_asks(info->request, &pdu);
-    *(is_again ? &device->counts.asked_again : &device->counts.asked) += 1;
+    if (pdu_of(message, len, &pdu)) waiting_asks(info->request, &pdu, info->again);
+    *(info->again ? &device->counts.asked_again : &device->counts.asked) += 1;
     if (!send_connected(device->socket, message, len)) gateway->counts.unsent++;
 }
 
@@ -330,16 +328,18 @@ static void take_given_up(struct gateway *gateway, uint64_t now, const snmpsec_g
     }
 }
 
-/* The agent's counter that counted a message, by its name; NULL: none did. */
-static const char *counted(struct gateway *gateway) {
-    snmpsec_counts n, old = gateway->agent;
-    if (snmpsec_gate_counts(gateway->gate, &n)) return NULL;
-    gateway->agent = n;
-    if (n.unknown_contexts != old.unknown_contexts) return "snmpUnknownContexts";
-    if (n.unknown_pdu_handlers != old.unknown_pdu_handlers) return "snmpUnknownPDUHandlers";
-    if (n.unavailable_contexts != old.unavailable_contexts) return "snmpUnavailableContexts";
-    if (n.silent_drops != old.silent_drops) return "snmpSilentDrops: even an answer without bindings is too long";
-    return NULL;
+/* The counter that counts a message that is answered, or isn't, by its name; NULL: none does. */
+static const char *counter_of(snmpsec_gate_event event, const snmpsec_gate_info *info, int why) {
+    bool is_dropped = event == SNMPSEC_GATE_UNANSWERED && info->ended != SNMPSEC_ENDED_IN_SILENCE;
+    if (why) return NULL;
+    if (info->ended != SNMPSEC_ENDED_UNHANDLED)
+        return is_dropped ? "snmpSilentDrops: even an answer without bindings is too long" : NULL;
+    switch (info->unhandled) {
+    case SNMPSEC_UNKNOWN_PDU_HANDLERS: return "snmpUnknownPDUHandlers";
+    case SNMPSEC_UNAVAILABLE_CONTEXTS: return "snmpUnavailableContexts";
+    case SNMPSEC_UNKNOWN_CONTEXTS: return "snmpUnknownContexts";
+    default: return NULL;
+    }
 }
 
 /* What a Response says, or that it is a Report, for counts and lines. */
@@ -352,20 +352,20 @@ static void note_response(struct gateway *gateway, uint64_t now, const snmpsec_g
     if (!request) return;
     asker_words(request, asker);
     asked_words(request, asked);
-    if (request->is_repeated && !request->rounds && line_has_room(LINE_SET, now))
+    if (info->ended == SNMPSEC_ENDED_REPEATED && line_has_room(LINE_SET, now))
         line("a repeated Set by %s has its first answer: error-status %" PRIu64 " (%s), index %" PRIu64, asker,
              info->status,
              name ? name : "no such one", info->index);
-    if (info->status != GEN_ERR || !info->index || !waiting_used_up(request)) return;
+    if (info->ended != SNMPSEC_ENDED_ROUNDS_USED_UP) return;
     gateway->counts.rounds_used_up++;
     if (line_has_room(LINE_ROUNDS, now))
         line("%s wants more than %" PRIu32 " rounds: %s", asker, request->rounds, asked);
 }
 
 /* One message of a request is answered, or isn't. */
-static void take_end(struct gateway *gateway, uint64_t now, const snmpsec_gate_info *info, int why) {
+static void take_end(uint64_t now, snmpsec_gate_event event, const snmpsec_gate_info *info, int why) {
     char asker[ASKER_WORDS], context[IN_CONTEXT_WORDS];
-    const char *counter = counted(gateway);
+    const char *counter = counter_of(event, info, why);
     struct waiting *request = waiting_of(info->request);
     if (counter && line_has_room(LINE_UNHANDLED, now)) {
         asker_words(request, asker);
@@ -389,7 +389,7 @@ static void take_event(struct gateway *gateway, uint64_t now, snmpsec_gate_event
     if (is_message && event == SNMPSEC_GATE_TO_CLIENT) send_client(gateway, len);
     if (is_message && event == SNMPSEC_GATE_TO_DEVICE) send_device(gateway, &info, len);
     if (event == SNMPSEC_GATE_TO_CLIENT) note_response(gateway, now, &info, waiting_of(info.request));
-    if (event == SNMPSEC_GATE_TO_CLIENT || event == SNMPSEC_GATE_UNANSWERED) take_end(gateway, now, &info, why);
+    if (event == SNMPSEC_GATE_TO_CLIENT || event == SNMPSEC_GATE_UNANSWERED) take_end(now, event, &info, why);
 }
 
 /* Sends all that is due by now. */

@@ -35,33 +35,12 @@ static bool grow(void) {
     return true;
 }
 
-/* The digests of Sets that reached their devices, as many as the library remembers. */
-enum { SETS = 4096 };
-static uint64_t sets[SETS];
-static size_t next_set;
-
-static bool is_set_of_before(uint64_t digest) {
-    for (size_t i = 0; i < SETS; i++)
-        if (sets[i] == digest) return true;
-    return false;
-}
-
-/* (FNV-1a, and never 0) */
-uint64_t digest_of(const uint8_t *datagram, size_t len) {
-    uint64_t digest = 0xcbf29ce484222325u;
-    for (size_t i = 0; i < len; i++) digest = (digest ^ datagram[i]) * 0x100000001b3u;
-    return digest ? digest : 1;
-}
-
-void waiting_begins(uint64_t number, const struct client *client, const uint8_t *user, size_t user_len,
-                    uint64_t digest) {
+void waiting_begins(uint64_t number, const struct client *client, const uint8_t *user, size_t user_len) {
     if (!grow()) return;
     struct waiting *request = place_of(number);
     if (request->messages) free(request->list);
     held += !request->messages;
     memset(request, 0, sizeof *request);
-    request->digest = digest;
-    request->is_repeated = digest && is_set_of_before(digest);
     request->number = number;
     request->messages = 1;
     request->client = *client;
@@ -114,33 +93,18 @@ static void keep_list(struct waiting *request, const struct pdu *pdu) {
     if (request->list_len) memcpy(request->list, pdu->list, pdu->list_len);
 }
 
-bool waiting_asks(uint64_t number, const struct pdu *pdu) {
+void waiting_asks(uint64_t number, const struct pdu *pdu, bool again) {
     struct waiting *request = waiting_of(number);
-    if (!request) return false;
-    if (request->times && request->ask_id == pdu->request_id) { request->times++; return true; }
+    if (!request) return;
+    if (again) { request->times++; return; }
     request->times = 1;
     request->rounds++;
-    request->ask_id = pdu->request_id;
     request->non_repeaters = pdu->status;
-    if (pdu->tag == SNMPSEC_SET_REQUEST) sets[next_set++ % SETS] = request->digest;
-    else keep_list(request, pdu);
+    if (pdu->tag != SNMPSEC_SET_REQUEST) keep_list(request, pdu);
     request->tag = pdu->tag;
     request->names = pdu->names;
     request->name_len = (uint8_t)(pdu->first_len < MOST_NAME ? pdu->first_len : MOST_NAME);
     if (pdu->first) memcpy(request->name, pdu->first, request->name_len);
-    return false;
-}
-
-void waiting_answers(uint64_t number, const struct pdu *pdu, bool is_fit) {
-    struct waiting *request = waiting_of(number);
-    if (!request) return;
-    request->status = pdu->status;
-    request->is_fit = is_fit;
-}
-
-/* (by tooBig a GetBulkRequest goes on, and by noSuchName a walk) */
-bool waiting_used_up(const struct waiting *request) {
-    return request->times && request->is_fit && request->status <= 2;
 }
 
 bool waiting_asked(const struct waiting *request, const struct pdu *answer, size_t number, const uint8_t **name,

@@ -20,13 +20,6 @@ struct waiting {
     uint32_t messages;
     /* how often the device was asked the same: 0: it wasn't asked; and how often it was asked another thing */
     uint32_t times, rounds;
-    uint32_t ask_id;
-    /* of its last answer, if it answered: the error-status, and whether its bindings fit */
-    uint32_t status;
-    bool is_fit;
-    /* the datagram by which it began is one of a Set that reached its device before */
-    bool is_repeated;
-    uint64_t digest;
     struct client client;
     uint8_t user[MOST_USER], user_len;
     /* the context in which it asks, if that is known, and how many octets it has: of more than MOST_CONTEXT none is
@@ -44,10 +37,9 @@ struct waiting {
     uint32_t non_repeaters;
 };
 
-/* A message begins the request of this number, or waits for its answer too. The digest is that of a Set's datagram, and
- * 0 of any other. Where there is no memory nothing is kept, and lines say less. */
-void waiting_begins(uint64_t number, const struct client *client, const uint8_t *user, size_t user_len,
-                    uint64_t digest);
+/* A message begins the request of this number, or waits for its answer too. Where there is no memory nothing is kept,
+ * and lines say less. */
+void waiting_begins(uint64_t number, const struct client *client, const uint8_t *user, size_t user_len);
 void waiting_joins(uint64_t number);
 /* The context in which it asks, of so many octets. */
 void waiting_context(uint64_t number, const uint8_t *context, size_t len);
@@ -55,19 +47,12 @@ void waiting_context(uint64_t number, const uint8_t *context, size_t len);
 struct waiting *waiting_of(uint64_t number);
 /* One of its messages waits no more: with the last of them the request is gone. */
 void waiting_ends(uint64_t number);
-/* Its device is asked by this PDU: whether it was asked the same before. */
-bool waiting_asks(uint64_t number, const struct pdu *pdu);
-/* Its device answers by this PDU, whose bindings fit what it was asked, or don't. */
-void waiting_answers(uint64_t number, const struct pdu *pdu, bool is_fit);
-/* Whether it ends with genErr because its device was asked as often as it may be: its last answer fits, and isn't the
- * cause. */
-bool waiting_used_up(const struct waiting *request);
+/* Its device is asked by this PDU, or the same again. */
+void waiting_asks(uint64_t number, const struct pdu *pdu, bool again);
 /* What the device was asked for the answer's binding of this number, from 1: a name that was asked, or the answer's
  * that stands before it in its column (RFC 3416, section 4.2.3). Whether it is known. */
 bool waiting_asked(const struct waiting *request, const struct pdu *answer, size_t number, const uint8_t **name,
                    size_t *name_len);
-/* Of a datagram: by it a Set that comes again is known for lines. */
-uint64_t digest_of(const uint8_t *datagram, size_t len);
 /* Nothing waits any more. */
 void waiting_clear(void);
 

@@ -37,7 +37,9 @@
  * else; moments are seconds from one beginning and don't go back; a salt never comes twice for a key, also not after a
  * restart. A length of 0 may come with a null pointer, and a null handle answers SNMPSEC_BAD_ARGUMENT.
  *
- * This file is not proved. */
+ * This file is not proved.
+ *
+ * Written of lib/calls.toml by tools/write-calls. */
 #ifndef SNMPSEC_H
 #define SNMPSEC_H
 
@@ -72,8 +74,7 @@ typedef enum snmpsec_answer {
     SNMPSEC_INVALID_FLAGS = 18,
     /* faults of a call */
     SNMPSEC_BAD_ARGUMENT = -1, SNMPSEC_NOTHING_TAKEN = -2, SNMPSEC_NOT_ASKED = -3, SNMPSEC_BAD_BINDINGS = -4,
-    SNMPSEC_SHORT_BUFFER = -5, SNMPSEC_BAD_CONFIGURATION = -6, SNMPSEC_BAD_CLOCKS = -7,
-    SNMPSEC_TOO_MANY_REQUESTS = -8
+    SNMPSEC_SHORT_BUFFER = -5, SNMPSEC_BAD_CONFIGURATION = -6, SNMPSEC_BAD_CLOCKS = -7, SNMPSEC_TOO_MANY_REQUESTS = -8
 } snmpsec_answer;
 
 /* The version of the library that runs, as SNMPSEC_VERSION is that of this header. */
@@ -87,8 +88,9 @@ SNMPSEC_CALL const char *snmpsec_error_name(int answer);
 #define SNMPSEC_LARGEST 65507
 #define SNMPSEC_MOST_ARCS 128
 
-typedef enum snmpsec_level { SNMPSEC_NO_AUTH_NO_PRIV = 1, SNMPSEC_AUTH_NO_PRIV = 2,
-                            SNMPSEC_AUTH_PRIV = 3 } snmpsec_level;
+typedef enum snmpsec_level {
+    SNMPSEC_NO_AUTH_NO_PRIV = 1, SNMPSEC_AUTH_NO_PRIV = 2, SNMPSEC_AUTH_PRIV = 3
+} snmpsec_level;
 typedef enum snmpsec_view { SNMPSEC_READ = 0, SNMPSEC_WRITE = 1, SNMPSEC_NOTIFY = 2 } snmpsec_view;
 
 /* isAccessAllowed (RFC 3415, section 3) */
@@ -100,16 +102,14 @@ typedef enum snmpsec_access {
 /* PDUs by their tags (RFC 3416) */
 typedef enum snmpsec_pdu {
     SNMPSEC_GET_REQUEST = 0xA0, SNMPSEC_GET_NEXT_REQUEST = 0xA1, SNMPSEC_RESPONSE_PDU = 0xA2,
-    SNMPSEC_SET_REQUEST = 0xA3,
-    SNMPSEC_GET_BULK_REQUEST = 0xA5, SNMPSEC_INFORM_REQUEST = 0xA6, SNMPSEC_TRAP = 0xA7, SNMPSEC_REPORT_PDU = 0xA8
+    SNMPSEC_SET_REQUEST = 0xA3, SNMPSEC_GET_BULK_REQUEST = 0xA5, SNMPSEC_INFORM_REQUEST = 0xA6, SNMPSEC_TRAP = 0xA7,
+    SNMPSEC_REPORT_PDU = 0xA8
 } snmpsec_pdu;
 
 /* The numbers of a message that is kept. Of a GetBulkRequest the second and third are non-repeaters and
  * max-repetitions, of other PDUs error-status and error-index. */
 typedef struct snmpsec_info {
-    int32_t level;
-    int32_t pdu;
-    int32_t request_id;
+    int32_t level, pdu, request_id;
     union { int32_t error_status, non_repeaters; };
     union { int32_t error_index, max_repetitions; };
     int32_t message_id;
@@ -128,26 +128,23 @@ typedef struct snmpsec_octets { const uint8_t *at; size_t len; } snmpsec_octets;
 /* the tables of a configuration */
 typedef enum snmpsec_config_table {
     SNMPSEC_NO_TABLE = 0, SNMPSEC_USER_TABLE = 1, SNMPSEC_CONTEXT_TABLE = 2, SNMPSEC_GROUP_TABLE = 3,
-    SNMPSEC_ACCESS_TABLE = 4,
-    SNMPSEC_FAMILY_TABLE = 5
+    SNMPSEC_ACCESS_TABLE = 4, SNMPSEC_FAMILY_TABLE = 5
 } snmpsec_config_table;
 
 /* why one is refused: it is no TOML; it has another key at the top, or one that is no array of tables; a row's key
  * isn't listed, is missing, or hasn't a value that is wanted; or the row is none that can stand there */
 typedef enum snmpsec_config_reason {
     SNMPSEC_NO_TOML = 1, SNMPSEC_BAD_TOP = 2, SNMPSEC_UNLISTED_KEY = 3, SNMPSEC_MISSING_KEY = 4, SNMPSEC_BAD_VALUE = 5,
-    SNMPSEC_BAD_USER = 6,
-    SNMPSEC_SHORT_PASSWORD = 7, SNMPSEC_DUPLICATE_USER = 8, SNMPSEC_BAD_ROW = 9, SNMPSEC_DUPLICATE_ROW = 10
+    SNMPSEC_BAD_USER = 6, SNMPSEC_SHORT_PASSWORD = 7, SNMPSEC_DUPLICATE_USER = 8, SNMPSEC_BAD_ROW = 9,
+    SNMPSEC_DUPLICATE_ROW = 10
 } snmpsec_config_reason;
 
 /* the keys of rows */
 typedef enum snmpsec_config_key {
     SNMPSEC_NO_KEY = 0, SNMPSEC_KEY_NAME = 1, SNMPSEC_KEY_AUTH = 2, SNMPSEC_KEY_AUTH_PASSWORD = 3,
-    SNMPSEC_KEY_PRIV_PASSWORD = 4,
-    SNMPSEC_KEY_MODEL = 5, SNMPSEC_KEY_GROUP = 6, SNMPSEC_KEY_PREFIX = 7, SNMPSEC_KEY_LEVEL = 8, SNMPSEC_KEY_MATCH = 9,
-    SNMPSEC_KEY_READ = 10,
-    SNMPSEC_KEY_WRITE = 11, SNMPSEC_KEY_NOTIFY = 12, SNMPSEC_KEY_VIEW = 13, SNMPSEC_KEY_SUBTREE = 14,
-    SNMPSEC_KEY_INCLUDE = 15,
+    SNMPSEC_KEY_PRIV_PASSWORD = 4, SNMPSEC_KEY_MODEL = 5, SNMPSEC_KEY_GROUP = 6, SNMPSEC_KEY_PREFIX = 7,
+    SNMPSEC_KEY_LEVEL = 8, SNMPSEC_KEY_MATCH = 9, SNMPSEC_KEY_READ = 10, SNMPSEC_KEY_WRITE = 11,
+    SNMPSEC_KEY_NOTIFY = 12, SNMPSEC_KEY_VIEW = 13, SNMPSEC_KEY_SUBTREE = 14, SNMPSEC_KEY_INCLUDE = 15,
     SNMPSEC_KEY_MASK = 16
 } snmpsec_config_key;
 
@@ -161,8 +158,7 @@ typedef struct snmpsec_config_place { size_t table, position, reason, key; } snm
  * is wrong and what is wanted; they name keys of the text and no value. SNMPSEC_SHORT_BUFFER: *place says where, and
  * *written how much is wanted. SNMPSEC_OUT_OF_MEMORY. */
 SNMPSEC_CHECK int snmpsec_config_fault(const uint8_t *config, size_t config_len, snmpsec_config_place *place,
-                                       uint8_t *out, size_t out_len,
-                                       size_t *written);
+                                       uint8_t *out, size_t out_len, size_t *written);
 
 /* ---- an agent */
 
@@ -173,8 +169,7 @@ SNMPSEC_CALL void snmpsec_agent_free(snmpsec_agent *agent);
  * (at most 2147483647), that started at the moment `started`: SNMPSEC_BAD_ARGUMENT, SNMPSEC_BAD_CONFIGURATION
  * (snmpsec_config_fault says where), SNMPSEC_OUT_OF_MEMORY; *out is then null. */
 SNMPSEC_CHECK int snmpsec_agent_new(const uint8_t *config, size_t config_len, const uint8_t *engine, size_t engine_len,
-                                    uint32_t boots,
-                                    uint64_t started, snmpsec_agent **out);
+                                    uint32_t boots, uint64_t started, snmpsec_agent **out);
 
 /* Users and tables become those of a changed configuration. The engine ID, the boots, the moment of the start, all
  * counters, what is kept and the message stay: so there is no restart, and managers need not learn the engine anew.
@@ -204,39 +199,40 @@ SNMPSEC_CHECK int snmpsec_agent_access(snmpsec_agent *agent, snmpsec_view view, 
  * there, and steps over no variable that is hidden. SNMPSEC_SHORT_BUFFER: *written says how many arcs are wanted;
  * SNMPSEC_BAD_ARGUMENT or SNMPSEC_NOTHING_TAKEN, as above: nothing is written. */
 SNMPSEC_CHECK int snmpsec_agent_next(snmpsec_agent *agent, snmpsec_view view, const uint32_t *arcs, size_t arcs_len,
-                                     uint32_t *out, size_t out_len,
-                                     size_t *written);
+                                     uint32_t *out, size_t out_len, size_t *written);
 /* As snmpsec_agent_allows and _access, for a user at a level in a context, without a message. */
 SNMPSEC_CHECK bool snmpsec_agent_user_allows(snmpsec_agent *agent, snmpsec_octets user, snmpsec_level level,
-                                             snmpsec_octets context,
-                                             snmpsec_view view, const uint32_t *arcs, size_t arcs_len);
+                                             snmpsec_octets context, snmpsec_view view, const uint32_t *arcs,
+                                             size_t arcs_len);
 SNMPSEC_CHECK int snmpsec_agent_user_access(snmpsec_agent *agent, snmpsec_octets user, snmpsec_level level,
-                                            snmpsec_octets context,
-                                            snmpsec_view view, const uint32_t *arcs, size_t arcs_len,
-                                            snmpsec_access *out);
+                                            snmpsec_octets context, snmpsec_view view, const uint32_t *arcs,
+                                            size_t arcs_len, snmpsec_access *out);
 
 /* Writes the Response to what is kept: SNMPSEC_BAD_ARGUMENT: a number above 2147483647; SNMPSEC_NOTHING_TAKEN;
  * SNMPSEC_NOT_ASKED: its PDU isn't one that is answered; SNMPSEC_BAD_BINDINGS; or a refusal: SNMPSEC_CLOCK_EXHAUSTED,
  * SNMPSEC_UNKNOWN_USER, SNMPSEC_UNSUPPORTED_LEVEL, SNMPSEC_TOO_LARGE (answer tooBig then: error-status 1 and no
  * bindings), SNMPSEC_OUT_OF_MEMORY. */
 SNMPSEC_CHECK int snmpsec_agent_respond(snmpsec_agent *agent, uint64_t now, uint32_t error_status, uint32_t error_index,
-                                        const uint8_t *list,
-                                        size_t list_len, uint64_t salt);
+                                        const uint8_t *list, size_t list_len, uint64_t salt);
 
 /* How many octets the sender of what is kept takes, 484 to 2147483647 (msgMaxSize): SNMPSEC_NOTHING_TAKEN. */
 SNMPSEC_CHECK int snmpsec_agent_max_size(snmpsec_agent *agent, uint32_t *out);
 /* What snmpsec_agent_respond writes, where it has at most `limit` octets; else SNMPSEC_TOO_LARGE. A Response without
  * bindings fits into 484 if contextEngineID and contextName have at most 32 octets each. */
 SNMPSEC_CHECK int snmpsec_agent_respond_within(snmpsec_agent *agent, uint64_t now, uint32_t error_status,
-                                               uint32_t error_index,
-                                               const uint8_t *list, size_t list_len, uint64_t salt, uint32_t limit);
+                                               uint32_t error_index, const uint8_t *list, size_t list_len,
+                                               uint64_t salt, uint32_t limit);
 /* The Response with as many of the bindings, from the first on, as have room in `limit` octets: `*count` is how many
  * they are. A GetBulk is answered with it (RFC 3416, section 4.2.3). One text is sealed, whatever is left out.
  * SNMPSEC_TOO_LARGE where there is no room even for a Response without bindings; `*count` stays on an error. */
 SNMPSEC_CHECK int snmpsec_agent_respond_front(snmpsec_agent *agent, uint64_t now, uint32_t error_status,
-                                              uint32_t error_index,
-                                              const uint8_t *list, size_t list_len, uint64_t salt, uint32_t limit,
-                                                  size_t *count);
+                                              uint32_t error_index, const uint8_t *list, size_t list_len, uint64_t salt,
+                                              uint32_t limit, size_t *count);
+/* How many of the bindings, from the first on, have room in that Response, whatever its salt: `*count` is what
+ * _respond_front would say, with its answers. Nothing is sealed or written. So it says of a Set, before anything is
+ * set, whether its answer has room. */
+SNMPSEC_CHECK int snmpsec_agent_fits(snmpsec_agent *agent, uint64_t now, uint32_t error_status, uint32_t error_index,
+                                     const uint8_t *list, size_t list_len, uint32_t limit, size_t *count);
 
 /* Why nothing answers what is kept, the first that applies: no request waits for a Response or a Report; its
  * contextEngineID isn't the agent's, or its PDU is no Get, GetNext, Set or GetBulk (RFC 3412, section 4.2.2); or no
@@ -277,22 +273,19 @@ SNMPSEC_CHECK int snmpsec_kept_max_size(snmpsec_kept *kept, uint32_t *out);
  * does this one. The agent may be another one than that which accepted it, as one that was made of a new configuration:
  * the Response is sealed for the user that the agent has by this name, under its engine ID. */
 SNMPSEC_CHECK int snmpsec_kept_respond(snmpsec_kept *kept, snmpsec_agent *agent, uint64_t now, uint32_t error_status,
-                                       uint32_t error_index,
-                                       const uint8_t *list, size_t list_len, uint64_t salt);
+                                       uint32_t error_index, const uint8_t *list, size_t list_len, uint64_t salt);
 SNMPSEC_CHECK int snmpsec_kept_respond_within(snmpsec_kept *kept, snmpsec_agent *agent, uint64_t now,
-                                              uint32_t error_status, uint32_t error_index,
-                                              const uint8_t *list, size_t list_len, uint64_t salt, uint32_t limit);
+                                              uint32_t error_status, uint32_t error_index, const uint8_t *list,
+                                              size_t list_len, uint64_t salt, uint32_t limit);
 SNMPSEC_CHECK int snmpsec_kept_respond_front(snmpsec_kept *kept, snmpsec_agent *agent, uint64_t now,
-                                             uint32_t error_status, uint32_t error_index,
-                                             const uint8_t *list, size_t list_len, uint64_t salt, uint32_t limit,
-                                                 size_t *count);
+                                             uint32_t error_status, uint32_t error_index, const uint8_t *list,
+                                             size_t list_len, uint64_t salt, uint32_t limit, size_t *count);
 
 /* What becomes of a variable (RFC 3413, section 3.2): it is answered; the error-status 6 or 16; its value is
  * noSuchObject; a walk goes on behind it; or the message is refused for SNMPSEC_UNKNOWN_CONTEXTS. */
 typedef enum snmpsec_status {
     SNMPSEC_NO_ERROR = 0, SNMPSEC_NO_ACCESS = 6, SNMPSEC_AUTHORIZATION_ERROR = 16, SNMPSEC_NO_SUCH_OBJECT = 128,
-    SNMPSEC_NOT_SEEN = 256,
-    SNMPSEC_UNKNOWN_CONTEXT = 257
+    SNMPSEC_NOT_SEEN = 256, SNMPSEC_UNKNOWN_CONTEXT = 257
 } snmpsec_status;
 /* By the answer on access, and the PDU that asks. SNMPSEC_BAD_ARGUMENT: no such answer, or the PDU is above 255. */
 SNMPSEC_CHECK int snmpsec_status_of(snmpsec_access access, snmpsec_pdu pdu, snmpsec_status *out);
@@ -300,8 +293,7 @@ SNMPSEC_CHECK int snmpsec_status_of(snmpsec_access access, snmpsec_pdu pdu, snmp
 typedef struct snmpsec_notice {
     uint32_t message_id, request_id;
     snmpsec_level level;
-    snmpsec_octets user, context_engine, context_name;
-    snmpsec_octets list;
+    snmpsec_octets user, context_engine, context_name, list;
     uint64_t salt;
 } snmpsec_notice;
 
@@ -318,8 +310,7 @@ SNMPSEC_CHECK int snmpsec_agent_counters(snmpsec_agent *agent, snmpsec_counters 
  * snmpInvalidMsgs, snmpSilentDrops (RFC 3412, section 5; RFC 3413, section 4.1.2; RFC 3418) */
 typedef struct snmpsec_counts {
     uint32_t unknown_pdu_handlers, unavailable_contexts, unknown_contexts, bad_versions, asn_parse_errors,
-        unknown_security_models,
-        invalid_messages, silent_drops;
+        unknown_security_models, invalid_messages, silent_drops;
 } snmpsec_counts;
 SNMPSEC_CHECK int snmpsec_agent_counts(snmpsec_agent *agent, snmpsec_counts *out);
 
@@ -335,8 +326,7 @@ SNMPSEC_CALL void snmpsec_manager_free(snmpsec_manager *manager);
  * version 1 were seen at the moment `now`: SNMPSEC_BAD_CLOCKS, SNMPSEC_BAD_CONFIGURATION, SNMPSEC_OUT_OF_MEMORY; *out
  * is then null. */
 SNMPSEC_CHECK int snmpsec_manager_new(const uint8_t *config, size_t config_len, const uint8_t *clocks,
-                                      size_t clocks_len, uint64_t now,
-                                      snmpsec_manager **out);
+                                      size_t clocks_len, uint64_t now, snmpsec_manager **out);
 
 /* Takes a datagram, and learns its engine's boots and time where it is authentic. SNMPSEC_OK: it is accepted, and kept.
  * SNMPSEC_OUT_OF_MEMORY: nothing is learned, so it may be taken again. */
@@ -350,8 +340,9 @@ SNMPSEC_CHECK int snmpsec_manager_message(snmpsec_manager *manager, uint8_t *out
 
 /* What a message is to the request that was written last: its Response, a Report (of the counter 1 to 6, by the order
  * of snmpsec_counters, or 0 of none), or neither. */
-typedef enum snmpsec_reply_kind { SNMPSEC_REPLY_RESPONSE = 0, SNMPSEC_REPLY_OTHER = 1,
-                                 SNMPSEC_REPLY_REPORT = 2 } snmpsec_reply_kind;
+typedef enum snmpsec_reply_kind {
+    SNMPSEC_REPLY_RESPONSE = 0, SNMPSEC_REPLY_OTHER = 1, SNMPSEC_REPLY_REPORT = 2
+} snmpsec_reply_kind;
 enum {
     SNMPSEC_UNSUPPORTED_LEVELS = 1, SNMPSEC_NOT_IN_WINDOWS = 2, SNMPSEC_UNKNOWN_USERS = 3, SNMPSEC_UNKNOWN_ENGINES = 4,
     SNMPSEC_WRONG_DIGESTS = 5, SNMPSEC_DECRYPTION_ERRORS = 6
@@ -379,8 +370,7 @@ typedef struct snmpsec_request {
     union { uint32_t error_status, non_repeaters; };
     union { uint32_t error_index, max_repetitions; };
     snmpsec_level level;
-    snmpsec_octets engine, user, context_engine, context_name;
-    snmpsec_octets list;
+    snmpsec_octets engine, user, context_engine, context_name, list;
     uint64_t salt;
 } snmpsec_request;
 
@@ -408,8 +398,12 @@ SNMPSEC_CHECK int snmpsec_manager_ask_discovery(snmpsec_manager *manager, uint32
  * ends the request, SNMPSEC_REPLY_REPORT, or SNMPSEC_REPLY_OTHER where none is answered; then token is 0. A Report has
  * its counter, as snmpsec_report has it, and is_authentic says if it came with authentication, from the engine that was
  * asked and for the user that asks; any other can be anybody's. */
-typedef struct snmpsec_answered { snmpsec_reply_kind kind; int counter; bool is_authentic; uint64_t token;
-                                 } snmpsec_answered;
+typedef struct snmpsec_answered {
+    snmpsec_reply_kind kind;
+    int counter;
+    bool is_authentic;
+    uint64_t token;
+} snmpsec_answered;
 /* A message answers one request alone, and the Response of a request is reported once. SNMPSEC_NOTHING_TAKEN: no
  * message is kept. */
 SNMPSEC_CHECK int snmpsec_manager_answered(snmpsec_manager *manager, snmpsec_answered *out);
@@ -427,13 +421,18 @@ typedef enum snmpsec_step {
 } snmpsec_step;
 /* What is known of a device: nothing; its engine ID; or the manager holds boots and time of its engine too
  * (snmpsec_manager_clock). */
-typedef enum snmpsec_known { SNMPSEC_KNOWN_NOTHING = 0, SNMPSEC_KNOWN_ENGINE = 1,
-                            SNMPSEC_KNOWN_CLOCK = 2 } snmpsec_known;
+typedef enum snmpsec_known {
+    SNMPSEC_KNOWN_NOTHING = 0, SNMPSEC_KNOWN_ENGINE = 1, SNMPSEC_KNOWN_CLOCK = 2
+} snmpsec_known;
 /* A request of a device: its level, what was sent last (SNMPSEC_WAIT: nothing is sent any more), and whether the
  * request was sent again. `counter` is that of the last Report that says why the request is refused or, where it isn't
  * authentic, is likely to have no answer; -1 of none. */
-typedef struct snmpsec_device { snmpsec_level level; uint32_t sent, again; int counter; bool is_authentic;
-                               } snmpsec_device;
+typedef struct snmpsec_device {
+    snmpsec_level level;
+    uint32_t sent, again;
+    int counter;
+    bool is_authentic;
+} snmpsec_device;
 
 /* Begins a request of a device, and says what is sent first. SNMPSEC_BAD_ARGUMENT: no such level, or no such
  * knowledge. */
@@ -541,12 +540,10 @@ SNMPSEC_CHECK int snmpsec_gate_setting(snmpsec_gate *gate, snmpsec_gate_text tex
  * becomes of it; a refusal, and _message is the report on it, if there is one. SNMPSEC_OUT_OF_MEMORY: it isn't taken,
  * and may be taken again. */
 SNMPSEC_CHECK int snmpsec_gate_take_client(snmpsec_gate *gate, uint64_t now, const uint8_t *client, size_t client_len,
-                                           const uint8_t *datagram,
-                                           size_t datagram_len, snmpsec_gate_event *event);
+                                           const uint8_t *datagram, size_t datagram_len, snmpsec_gate_event *event);
 /* Takes a datagram from the device at this position: SNMPSEC_OK, SNMPSEC_OUT_OF_MEMORY. */
 SNMPSEC_CHECK int snmpsec_gate_take_device(snmpsec_gate *gate, uint64_t now, size_t device, const uint8_t *datagram,
-                                           size_t datagram_len,
-                                           snmpsec_gate_event *event);
+                                           size_t datagram_len, snmpsec_gate_event *event);
 /* Does the first thing that is due: SNMPSEC_OK, SNMPSEC_OUT_OF_MEMORY. Each salt is another one, also after a restart,
  * and each ask_id. *why is a refusal for which a message isn't answered, or 0. */
 SNMPSEC_CHECK int snmpsec_gate_next(snmpsec_gate *gate, uint64_t now, uint64_t salt, uint32_t ask_id,
@@ -571,14 +568,27 @@ typedef enum snmpsec_misfit {
     /* it has no value, or one that isn't spelled as its tag has it; or a value behind endOfMibView */
     SNMPSEC_MISFIT_NO_VALUE = 5, SNMPSEC_MISFIT_AFTER_END = 6
 } snmpsec_misfit;
+/* How a request ended of which a message is answered, or isn't. A message isn't answered though its request ended by an
+ * answer, and no refusal is the reason: even tooBig without bindings is too long (snmpSilentDrops). */
+typedef enum snmpsec_ended {
+    SNMPSEC_ENDED_NOT_TOLD = 0,
+    /* by what its device answered, or by an error of the gateway's own; by what was told of its datagram before: it is
+     * a Set that came again; by genErr, since its device was asked as often as it may be for one request */
+    SNMPSEC_ENDED_BY_ANSWER = 1, SNMPSEC_ENDED_REPEATED = 2, SNMPSEC_ENDED_ROUNDS_USED_UP = 3,
+    /* no application answers it; it was given up, and nothing is said of it */
+    SNMPSEC_ENDED_UNHANDLED = 4, SNMPSEC_ENDED_IN_SILENCE = 5
+} snmpsec_ended;
 /* The request and the device that the last call was about, where it was about one, and how many requests wait. Then
  * what the last call told, and 0 for what it didn't tell. SNMPSEC_GATE_BEGINS, SNMPSEC_GATE_JOINS: the PDU by which the
  * message asks, an snmpsec_pdu. SNMPSEC_GATE_TO_CLIENT: error-status and error-index of the Response, or is_report is
- * 1. SNMPSEC_GATE_ANSWERS: why the answer doesn't fit, an snmpsec_misfit, and the number of the answer's binding from
- * 1, or 0; and how many of its bindings are hidden: the user may not read variables of their names. Of an answer to a
- * Set that is 0. */
-typedef struct snmpsec_gate_info { uint64_t request, device, waiting, status, index, is_report, misfit, binding, hidden,
-                                  pdu; } snmpsec_gate_info;
+ * 1; and how the request ended, an snmpsec_ended, as of SNMPSEC_GATE_UNANSWERED, with the snmpsec_unhandled of a
+ * request that no application answers. SNMPSEC_GATE_TO_DEVICE: again is 1 if the device is asked the same again, since
+ * it didn't answer. SNMPSEC_GATE_ANSWERS: why the answer doesn't fit, an snmpsec_misfit, and the number of the answer's
+ * binding from 1, or 0; and how many of its bindings are hidden: the user may not read variables of their names. Of an
+ * answer to a Set that is 0. */
+typedef struct snmpsec_gate_info {
+    uint64_t request, device, waiting, status, index, is_report, misfit, binding, hidden, pdu, ended, unhandled, again;
+} snmpsec_gate_info;
 SNMPSEC_CHECK int snmpsec_gate_numbers(snmpsec_gate *gate, snmpsec_gate_info *out);
 /* The agent's counters. */
 SNMPSEC_CHECK int snmpsec_gate_counters(snmpsec_gate *gate, snmpsec_counters *out);
@@ -587,8 +597,7 @@ SNMPSEC_CHECK int snmpsec_gate_counts(snmpsec_gate *gate, snmpsec_counts *out);
  * step 4): SNMPSEC_OK: *out says what isAccessAllowed answers; SNMPSEC_BAD_ARGUMENT: not 1 to 128 arcs;
  * SNMPSEC_NOTHING_TAKEN: no such receiver or device. */
 SNMPSEC_CHECK int snmpsec_gate_may_notify(snmpsec_gate *gate, size_t receiver, size_t device, const uint32_t *arcs,
-                                          size_t arcs_len,
-                                          snmpsec_access *out);
+                                          size_t arcs_len, snmpsec_access *out);
 /* The msgUserName of a datagram, at most 32 octets, for a log. Nobody has shown that it is the sender's.
  * SNMPSEC_NOT_MESSAGE, SNMPSEC_BAD_VERSION, SNMPSEC_NOT_SECURITY: there is none; SNMPSEC_SHORT_BUFFER. */
 SNMPSEC_CHECK int snmpsec_datagram_user(const uint8_t *datagram, size_t datagram_len, uint8_t *out, size_t out_len,
@@ -638,8 +647,7 @@ SNMPSEC_CHECK int snmpsec_forward_new(const uint8_t *config, size_t config_len, 
 /* Takes a datagram from the device at this position: SNMPSEC_OK, SNMPSEC_OUT_OF_MEMORY. It rests on the caller that it
  * came from this device: a community is no secret on the way. */
 SNMPSEC_CHECK int snmpsec_forward_take_trap(snmpsec_forward *forward, size_t device, const uint8_t *datagram,
-                                            size_t datagram_len,
-                                            snmpsec_forward_event *event);
+                                            size_t datagram_len, snmpsec_forward_event *event);
 /* Takes a datagram from the receiver at this position, at this moment in milliseconds: SNMPSEC_OK;
  * SNMPSEC_OUT_OF_MEMORY; or the refusal of the datagram. An Inform is acknowledged by its own receiver alone, so it
  * rests on the caller that the datagram came from it. */
@@ -658,14 +666,16 @@ SNMPSEC_CHECK int snmpsec_forward_due(snmpsec_forward *forward, uint64_t *at);
 SNMPSEC_CHECK int snmpsec_forward_message(snmpsec_forward *forward, uint8_t *out, size_t out_len, size_t *written);
 /* What is sent for an Inform: what asks for the engine ID of the receiver's engine, what asks for its time, and the
  * Inform itself. */
-typedef enum snmpsec_inform_message { SNMPSEC_INFORM_DISCOVERY = 1, SNMPSEC_INFORM_TIME = 2,
-                                     SNMPSEC_INFORM_ITSELF = 3 } snmpsec_inform_message;
+typedef enum snmpsec_inform_message {
+    SNMPSEC_INFORM_DISCOVERY = 1, SNMPSEC_INFORM_TIME = 2, SNMPSEC_INFORM_ITSELF = 3
+} snmpsec_inform_message;
 /* The notification and the receiver that the last call was about, and how many notifications wait to be sent; the
  * Inform that it was about, and how many wait for an answer. What it wasn't about stays. But message is what the last
  * call left to be sent for an Inform, or 0, and counter is what the Inform's receiver reported, as snmpsec_report has
  * it, or 0. */
-typedef struct snmpsec_forward_info { uint64_t notification, receiver, waiting, inform, informs, message, counter;
-                                     } snmpsec_forward_info;
+typedef struct snmpsec_forward_info {
+    uint64_t notification, receiver, waiting, inform, informs, message, counter;
+} snmpsec_forward_info;
 SNMPSEC_CHECK int snmpsec_forward_numbers(snmpsec_forward *forward, snmpsec_forward_info *out);
 
 /* ---- variable bindings, as octets */
@@ -685,8 +695,7 @@ SNMPSEC_CHECK int snmpsec_binding_read(const uint8_t *list, size_t list_len, siz
 /* Writes a binding: SNMPSEC_BAD_ARGUMENT: the arcs are no identifier's, the tag's low five bits are all ones, or the
  * content is above 65507 octets; SNMPSEC_OUT_OF_MEMORY; SNMPSEC_SHORT_BUFFER, and *written says how much is wanted. */
 SNMPSEC_CHECK int snmpsec_binding_write(const uint32_t *arcs, size_t arcs_len, uint8_t tag, const uint8_t *content,
-                                        size_t content_len,
-                                        uint8_t *out, size_t out_len, size_t *written);
+                                        size_t content_len, uint8_t *out, size_t out_len, size_t *written);
 
 /* What a scopedPDU says (RFC 3412, section 6.8; RFC 3416, section 3). Its numbers may be negative, which no
  * well-behaved program writes, and its contextEngineID and contextName have any length. */
@@ -695,8 +704,7 @@ typedef struct snmpsec_scoped {
     int32_t request_id;
     union { int32_t error_status, non_repeaters; };
     union { int32_t error_index, max_repetitions; };
-    snmpsec_octets context_engine, context_name;
-    snmpsec_octets list;
+    snmpsec_octets context_engine, context_name, list;
 } snmpsec_scoped;
 
 /* Writes a scopedPDU, which snmpsec_manager_seal seals: SNMPSEC_BAD_ARGUMENT: no such PDU; SNMPSEC_BAD_BINDINGS;
@@ -713,6 +721,7 @@ SNMPSEC_CHECK bool snmpsec_value_is(uint8_t tag, const uint8_t *content, size_t 
  * They keep nothing. A message that came is checked by a handle's _take. A protocol for authentication has its number
  * below snmpAuthProtocols (RFC 3414, section 5; RFC 7860, section 8). SNMPSEC_BAD_ARGUMENT comes before
  * SNMPSEC_SHORT_BUFFER, and neither writes anything: *written stays as it was too. */
+
 typedef enum snmpsec_protocol { SNMPSEC_MD5 = 2, SNMPSEC_SHA1 = 3, SNMPSEC_SHA256 = 5 } snmpsec_protocol;
 
 #define SNMPSEC_LARGEST_KEY 32
@@ -721,20 +730,18 @@ typedef enum snmpsec_protocol { SNMPSEC_MD5 = 2, SNMPSEC_SHA1 = 3, SNMPSEC_SHA25
 /* The key of a password, the same for all engines (RFC 3414, section A.2; RFC 7860, section 5): 16, 20 or 32 octets.
  * SNMPSEC_BAD_ARGUMENT: no such protocol, or fewer than 8 octets; SNMPSEC_SHORT_BUFFER. It hashes 1,048,576 octets. */
 SNMPSEC_CHECK int snmpsec_password_key(snmpsec_protocol protocol, const uint8_t *password, size_t password_len,
-                                       uint8_t *out, size_t out_len,
-                                       size_t *written);
+                                       uint8_t *out, size_t out_len, size_t *written);
 /* The key localised to an engine (RFC 3414, section 2.6; RFC 7860, section 5). SNMPSEC_BAD_ARGUMENT: no such protocol,
  * the key has more than 32 octets, or the engine ID not 5 to 32; SNMPSEC_SHORT_BUFFER. */
 SNMPSEC_CHECK int snmpsec_localise(snmpsec_protocol protocol, const uint8_t *key, size_t key_len, const uint8_t *engine,
-                                   size_t engine_len,
-                                   uint8_t *out, size_t out_len, size_t *written);
+                                   size_t engine_len, uint8_t *out, size_t out_len, size_t *written);
 /* The code, under a localised key, of `front`, this many zero octets and `back`, joined: 12 octets (MD5 and SHA-1; RFC
  * 3414, sections 6.3.1 and 7.3.1) or 24 (SHA-256; RFC 7860, section 4.2.1). The zeros stand in the code's own place, so
  * in a message they are as many as the code has octets. SNMPSEC_BAD_ARGUMENT: no such protocol, the key has more than
  * 32 octets, or there are more than 24 zeros; SNMPSEC_SHORT_BUFFER. */
 SNMPSEC_CHECK int snmpsec_mac(snmpsec_protocol protocol, const uint8_t *key, size_t key_len, const uint8_t *front,
-                              size_t front_len, size_t zeros,
-                              const uint8_t *back, size_t back_len, uint8_t *out, size_t out_len, size_t *written);
+                              size_t front_len, size_t zeros, const uint8_t *back, size_t back_len, uint8_t *out,
+                              size_t out_len, size_t *written);
 
 /* Seals, and opens, a text of any length in its place, by AES-128 in cipher feedback mode (RFC 3826, section 3.1). The
  * key is the first 16 octets of a localised key. Boots and time, in seconds, are the authoritative engine's that the
@@ -742,11 +749,9 @@ SNMPSEC_CHECK int snmpsec_mac(snmpsec_protocol protocol, const uint8_t *key, siz
  * key hasn't 16 octets or the salt hasn't 8, and the text stays as it was. _open can't tell a wrong key: whatever the
  * octets are, they open to some text. */
 SNMPSEC_CHECK int snmpsec_seal(const uint8_t *key, size_t key_len, uint32_t boots, uint32_t time, const uint8_t *salt,
-                               size_t salt_len,
-                               uint8_t *text, size_t text_len);
+                               size_t salt_len, uint8_t *text, size_t text_len);
 SNMPSEC_CHECK int snmpsec_open(const uint8_t *key, size_t key_len, uint32_t boots, uint32_t time, const uint8_t *salt,
-                               size_t salt_len,
-                               uint8_t *text, size_t text_len);
+                               size_t salt_len, uint8_t *text, size_t text_len);
 
 /* Wipes octets, as a configuration or a password, also where a compiler sees that nobody reads them again. */
 SNMPSEC_CALL void snmpsec_wipe(void *octets, size_t octets_len);

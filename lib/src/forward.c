@@ -22,54 +22,69 @@ void snmpsec_forward_free(snmpsec_forward *forward) {
     snmpsec_inside_wipe_deep_stack();
 }
 
-/* An event is SNMPSEC_FORWARD_NOTHING or above the refusals. */
-static int told_event(int32_t answer, snmpsec_forward_event *event) {
-    if (answer < SNMPSEC_FORWARD_UNREADABLE && answer != SNMPSEC_FORWARD_NOTHING) return answer;
-    *event = (snmpsec_forward_event)answer;
-    return SNMPSEC_OK;
+/* If it answers 0, `said` has what the call reports. */
+static int32_t ask_forward(snmpsec_forward *forward, proved_forward_asked asked, proved_forward_said *said) {
+    fit(&asked.datagram);
+    return proved_forward_call(forward, &asked, said);
 }
 
-/* An answer that nothing is sent has the number of the reason on top of that of its event. */
-static int reason_in(int32_t answer) {
-    if (answer > SNMPSEC_FORWARD_INFORM_UNSENT) return answer - SNMPSEC_FORWARD_INFORM_UNSENT;
-    return answer > SNMPSEC_FORWARD_UNSENT && answer < SNMPSEC_FORWARD_NO_ANSWER ? answer - SNMPSEC_FORWARD_UNSENT : 0;
+/* The same of a call that tells an event. */
+static int ask_event(snmpsec_forward *forward, proved_forward_asked asked, proved_forward_said *said,
+                     snmpsec_forward_event *event) {
+    int answer = done_deep(ask_forward(forward, asked, said));
+    if (!answer) *event = (snmpsec_forward_event)said->event;
+    return answer;
 }
 
 int snmpsec_forward_take_trap(snmpsec_forward *forward, size_t device, const uint8_t *datagram, size_t datagram_len,
                               snmpsec_forward_event *event) {
+    proved_forward_said said = {0};
     if (!forward || !event) return SNMPSEC_BAD_ARGUMENT;
-    return told_event(done_deep(proved_forward_take_trap(forward, device, in(datagram, datagram_len), datagram_len)),
-                      event);
+    return ask_event(forward, (proved_forward_asked){.call = PROVED_FORWARD_TAKE_TRAP, .device = device,
+                                                     .datagram = {datagram, datagram_len}}, &said, event);
 }
 
 int snmpsec_forward_take_receiver(snmpsec_forward *forward, uint64_t now, size_t receiver, const uint8_t *datagram,
                                   size_t datagram_len,
                                   snmpsec_forward_event *event) {
+    proved_forward_said said = {0};
     if (!forward || !event) return SNMPSEC_BAD_ARGUMENT;
-    return told_event(done_deep(proved_forward_take_receiver(forward, now, receiver, in(datagram, datagram_len),
-        datagram_len)), event);
+    return ask_event(forward, (proved_forward_asked){.call = PROVED_FORWARD_TAKE_RECEIVER, .moment = now,
+                                                     .receiver = receiver,
+                                                     .datagram = {datagram, datagram_len}}, &said, event);
 }
 
 int snmpsec_forward_next(snmpsec_forward *forward, uint64_t now, uint64_t salt, uint32_t ask_id,
                          snmpsec_forward_event *event, int *why) {
+    proved_forward_said said = {0};
     if (!forward || !event || !why) return SNMPSEC_BAD_ARGUMENT;
-    int32_t answer = done_deep(proved_forward_next(forward, now, salt, ask_id));
-    *why = reason_in(answer);
-    return told_event(answer - *why, event);
+    int answer = ask_event(forward, (proved_forward_asked){.call = PROVED_FORWARD_NEXT, .moment = now, .salt = salt,
+                                                           .ask_id = ask_id}, &said, event);
+    *why = (int)said.why;
+    return answer;
 }
 
 int snmpsec_forward_due(snmpsec_forward *forward, uint64_t *at) {
-    return forward && at ? proved_forward_due(forward, at) : SNMPSEC_BAD_ARGUMENT;
+    proved_forward_said said = {0};
+    if (!forward || !at) return SNMPSEC_BAD_ARGUMENT;
+    int32_t answer = ask_forward(forward, (proved_forward_asked){.call = PROVED_FORWARD_DUE}, &said);
+    if (!answer) *at = said.due;
+    return answer;
 }
 
 int snmpsec_forward_message(snmpsec_forward *forward, uint8_t *out, size_t out_len, size_t *written) {
-    return forward && written ? proved_forward_message(forward, room(out, out_len), out_len, written)
+    return forward && written ? proved_forward_copy(forward, room(out, out_len), out_len, written)
         : SNMPSEC_BAD_ARGUMENT;
 }
 
-enum { NUMBERS = sizeof(snmpsec_forward_info) / sizeof(uint64_t) };
-_Static_assert(NUMBERS == 7, "the numbers of a forwarder lie one after another");
-
 int snmpsec_forward_numbers(snmpsec_forward *forward, snmpsec_forward_info *out) {
-    return forward && out ? proved_forward_numbers(forward, (uint64_t *)out, NUMBERS) : SNMPSEC_BAD_ARGUMENT;
+    proved_forward_said said = {0};
+    if (!forward || !out) return SNMPSEC_BAD_ARGUMENT;
+    int32_t answer = ask_forward(forward, (proved_forward_asked){.call = PROVED_FORWARD_INFO}, &said);
+    if (answer) return answer;
+    *out = (snmpsec_forward_info){
+        .notification = said.info.notification, .receiver = said.info.receiver, .waiting = said.info.waiting,
+        .inform = said.info.inform, .informs = said.info.informs, .message = said.info.message,
+        .counter = said.info.counter};
+    return SNMPSEC_OK;
 }

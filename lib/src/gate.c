@@ -46,69 +46,101 @@ void snmpsec_gate_free(snmpsec_gate *gate) {
 
 int snmpsec_gate_setting(snmpsec_gate *gate, snmpsec_gate_text text, size_t position, uint8_t *out, size_t out_len,
                          size_t *written) {
-    return gate && written ? proved_gate_setting(gate, text, position, room(out, out_len), out_len, written)
-        : SNMPSEC_BAD_ARGUMENT;
+    return gate && written ? proved_gate_copy(gate, PROVED_GATE_SETTING, text, position, room(out, out_len), out_len,
+                                              written) : SNMPSEC_BAD_ARGUMENT;
 }
 
-/* An event is SNMPSEC_GATE_NOTHING or above the refusals. */
-static int told_event(int32_t answer, snmpsec_gate_event *event) {
-    if (answer < SNMPSEC_GATE_BEGINS && answer != SNMPSEC_GATE_NOTHING) return answer;
-    *event = answer > SNMPSEC_GATE_UNANSWERED ? SNMPSEC_GATE_UNANSWERED : (snmpsec_gate_event)answer;
-    return SNMPSEC_OK;
+/* If it answers 0, `said` has what the call reports. */
+static int32_t ask_gate(snmpsec_gate *gate, proved_gate_asked asked, proved_gate_said *said) {
+    fit(&asked.client);
+    fit(&asked.datagram);
+    asked.arcs.at = name(asked.arcs.at, asked.arcs.len);
+    return proved_gate_call(gate, &asked, said);
+}
+
+/* The same of a call that tells an event. */
+static int ask_event(snmpsec_gate *gate, proved_gate_asked asked, proved_gate_said *said, snmpsec_gate_event *event) {
+    int answer = done_deep(ask_gate(gate, asked, said));
+    if (!answer) *event = (snmpsec_gate_event)said->event;
+    return answer;
 }
 
 int snmpsec_gate_take_client(snmpsec_gate *gate, uint64_t now, const uint8_t *client, size_t client_len,
                              const uint8_t *datagram,
                              size_t datagram_len, snmpsec_gate_event *event) {
+    proved_gate_said said = {0};
     if (!gate || !event) return SNMPSEC_BAD_ARGUMENT;
-    return told_event(done_deep(proved_gate_take_client(gate, now, in(client, client_len), client_len,
-                                                        in(datagram, datagram_len), datagram_len)), event);
+    return ask_event(gate, (proved_gate_asked){.call = PROVED_GATE_TAKE_CLIENT, .moment = now,
+                                               .client = {client, client_len},
+                                               .datagram = {datagram, datagram_len}}, &said, event);
 }
 
 int snmpsec_gate_take_device(snmpsec_gate *gate, uint64_t now, size_t device, const uint8_t *datagram,
                              size_t datagram_len,
                              snmpsec_gate_event *event) {
+    proved_gate_said said = {0};
     if (!gate || !event) return SNMPSEC_BAD_ARGUMENT;
-    return told_event(done_deep(proved_gate_take_device(gate, now, device, in(datagram, datagram_len), datagram_len)),
-                      event);
+    return ask_event(gate, (proved_gate_asked){.call = PROVED_GATE_TAKE_DEVICE, .moment = now, .device = device,
+                                               .datagram = {datagram, datagram_len}}, &said, event);
 }
 
 int snmpsec_gate_next(snmpsec_gate *gate, uint64_t now, uint64_t salt, uint32_t ask_id, snmpsec_gate_event *event,
                       int *why) {
+    proved_gate_said said = {0};
     if (!gate || !event || !why) return SNMPSEC_BAD_ARGUMENT;
-    int answer = done_deep(proved_gate_next(gate, now, salt, ask_id));
-    *why = answer > SNMPSEC_GATE_UNANSWERED ? answer - SNMPSEC_GATE_UNANSWERED : 0;
-    return told_event(answer, event);
+    int answer = ask_event(gate, (proved_gate_asked){.call = PROVED_GATE_NEXT, .moment = now, .salt = salt,
+                                                     .ask_id = ask_id}, &said, event);
+    *why = (int)said.why;
+    return answer;
 }
 
 int snmpsec_gate_due(snmpsec_gate *gate, uint64_t *at) {
-    return gate && at ? proved_gate_due(gate, at) : SNMPSEC_BAD_ARGUMENT;
+    proved_gate_said said = {0};
+    if (!gate || !at) return SNMPSEC_BAD_ARGUMENT;
+    int32_t answer = ask_gate(gate, (proved_gate_asked){.call = PROVED_GATE_DUE}, &said);
+    if (!answer) *at = said.due;
+    return answer;
 }
 
 int snmpsec_gate_message(snmpsec_gate *gate, uint8_t *out, size_t out_len, size_t *written) {
-    return gate && written ? proved_gate_message(gate, room(out, out_len), out_len, written) : SNMPSEC_BAD_ARGUMENT;
-}
-
-int snmpsec_gate_client(snmpsec_gate *gate, uint8_t *out, size_t out_len, size_t *written) {
-    return gate && written ? proved_gate_client(gate, room(out, out_len), out_len, written) : SNMPSEC_BAD_ARGUMENT;
-}
-
-int snmpsec_gate_context(snmpsec_gate *gate, uint64_t request, uint8_t *out, size_t out_len, size_t *written) {
-    return gate && written ? proved_gate_context(gate, request, room(out, out_len), out_len, written)
+    return gate && written ? proved_gate_copy(gate, PROVED_GATE_MESSAGE, 0, 0, room(out, out_len), out_len, written)
         : SNMPSEC_BAD_ARGUMENT;
 }
 
-enum { GATE_NUMBERS = sizeof(snmpsec_gate_info) / sizeof(uint64_t) };
-_Static_assert(GATE_NUMBERS == 10, "the numbers of a gateway lie one after another");
+int snmpsec_gate_client(snmpsec_gate *gate, uint8_t *out, size_t out_len, size_t *written) {
+    return gate && written ? proved_gate_copy(gate, PROVED_GATE_CLIENT, 0, 0, room(out, out_len), out_len, written)
+        : SNMPSEC_BAD_ARGUMENT;
+}
+
+int snmpsec_gate_context(snmpsec_gate *gate, uint64_t request, uint8_t *out, size_t out_len, size_t *written) {
+    return gate && written ? proved_gate_copy(gate, PROVED_GATE_CONTEXT, 0, request, room(out, out_len), out_len,
+                                              written) : SNMPSEC_BAD_ARGUMENT;
+}
 
 int snmpsec_gate_numbers(snmpsec_gate *gate, snmpsec_gate_info *out) {
-    return gate && out ? proved_gate_numbers(gate, (uint64_t *)out, GATE_NUMBERS) : SNMPSEC_BAD_ARGUMENT;
+    proved_gate_said said = {0};
+    if (!gate || !out) return SNMPSEC_BAD_ARGUMENT;
+    int32_t answer = ask_gate(gate, (proved_gate_asked){.call = PROVED_GATE_INFO}, &said);
+    if (answer) return answer;
+    *out = (snmpsec_gate_info){
+        .request = said.info.request, .device = said.info.device, .waiting = said.info.waiting,
+        .status = said.info.status, .index = said.info.index, .is_report = said.info.is_report,
+        .misfit = said.info.misfit, .binding = said.info.binding, .hidden = said.info.hidden, .pdu = said.info.pdu,
+        .ended = said.info.ended, .unhandled = said.info.unhandled, .again = said.info.again};
+    return SNMPSEC_OK;
+}
+
+/* The value of a counter that there is. */
+static uint32_t value_of(snmpsec_gate *gate, uint32_t call, uint32_t counter) {
+    proved_gate_said said = {0};
+    ask_gate(gate, (proved_gate_asked){.call = call, .counter = counter}, &said);
+    return said.value;
 }
 
 int snmpsec_gate_counters(snmpsec_gate *gate, snmpsec_counters *out) {
     uint32_t n[6];
     if (!gate || !out) return SNMPSEC_BAD_ARGUMENT;
-    for (uint32_t i = 0; i < 6; i++) n[i] = (uint32_t)proved_gate_counter(gate, i + 1);
+    for (uint32_t i = 0; i < 6; i++) n[i] = value_of(gate, PROVED_GATE_COUNTER, i + 1);
     *out = (snmpsec_counters){n[0], n[1], n[2], n[3], n[4], n[5]};
     return SNMPSEC_OK;
 }
@@ -117,19 +149,19 @@ int snmpsec_gate_counts(snmpsec_gate *gate, snmpsec_counts *out) {
     enum { FIRST = 7, COUNTS = 8 };
     uint32_t n[COUNTS];
     if (!gate || !out) return SNMPSEC_BAD_ARGUMENT;
-    for (uint32_t i = 0; i < COUNTS; i++) n[i] = (uint32_t)proved_gate_count(gate, FIRST + i);
+    for (uint32_t i = 0; i < COUNTS; i++) n[i] = value_of(gate, PROVED_GATE_COUNT, FIRST + i);
     *out = (snmpsec_counts){n[0], n[1], n[2], n[3], n[4], n[5], n[6], n[7]};
     return SNMPSEC_OK;
 }
 
 int snmpsec_gate_may_notify(snmpsec_gate *gate, size_t receiver, size_t device, const uint32_t *arcs, size_t arcs_len,
                             snmpsec_access *out) {
-    static const uint32_t no_arcs[4];
+    proved_gate_said said = {0};
     if (!gate || !out) return SNMPSEC_BAD_ARGUMENT;
-    int answer = proved_gate_may_notify(gate, receiver, device, arcs_len ? arcs : no_arcs, arcs_len);
-    if (answer < 0) return answer;
-    *out = (snmpsec_access)answer;
-    return SNMPSEC_OK;
+    int32_t answer = ask_gate(gate, (proved_gate_asked){.call = PROVED_GATE_MAY_NOTIFY, .receiver = receiver,
+                                                        .device = device, .arcs = {arcs, arcs_len}}, &said);
+    if (!answer) *out = (snmpsec_access)said.access;
+    return answer;
 }
 
 int snmpsec_datagram_user(const uint8_t *datagram, size_t datagram_len, uint8_t *out, size_t out_len, size_t *written) {

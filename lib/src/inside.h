@@ -10,7 +10,7 @@
 
 /* More than the deepest call was seen to use, which tests/stack.c measures. */
 #ifndef SNMPSEC_STACK
-#define SNMPSEC_STACK 12288
+#define SNMPSEC_STACK 13312
 #endif
 #ifndef SNMPSEC_DEEP_STACK
 #define SNMPSEC_DEEP_STACK 49152

@@ -48,6 +48,27 @@ static void check_config_fault(void) {
     check("and then the fault is written", SNMPSEC_BAD_CONFIGURATION, answer);
 }
 
+/* A number that is no call's, nor what is copied: it is answered so, and nothing is written. */
+static void no_calls(void *agent, void *manager) {
+    static const uint8_t none[16];
+    static const uint32_t no_arcs[4];
+    const proved_octets octets = {none, 0};
+    const proved_agent_asked of_agent = {.call = PROVED_AGENT_COUNT + 1, .user = octets, .context_engine = octets,
+                                         .context_name = octets, .octets = octets, .arcs = {no_arcs, 0}};
+    const proved_manager_asked of_manager = {.call = PROVED_MANAGER_PAIR + 1, .engine = octets, .user = octets,
+                                             .context_engine = octets, .context_name = octets, .octets = octets};
+    proved_agent_said agent_said = {.access = 7, .count = 7};
+    proved_manager_said manager_said = {.kind = 7, .token = 7};
+    uint8_t out[1] = {7};
+    size_t written = 7;
+    check("no call of an agent", SNMPSEC_BAD_ARGUMENT, proved_agent_call(agent, &of_agent, &agent_said));
+    check("no call of a manager", SNMPSEC_BAD_ARGUMENT, proved_manager_call(manager, &of_manager, &manager_said));
+    check("nothing is copied", SNMPSEC_BAD_ARGUMENT, proved_agent_copy(agent, PROVED_MESSAGE + 1, 0, out, 1, &written));
+    check("nor of a manager", SNMPSEC_BAD_ARGUMENT, proved_manager_copy(manager, PROVED_PART, 5, out, 1, &written));
+    check("nothing is written", 1, agent_said.access == 7 && agent_said.count == 7 && manager_said.kind == 7
+                                       && manager_said.token == 7 && out[0] == 7 && written == 7);
+}
+
 /* Each _new of the archive writes its handle where it answers 0, which no contract says, and else nothing. */
 static void handles(void) {
     static const char clocks[] = SNMPSEC_NO_CLOCKS;
@@ -70,6 +91,7 @@ static void handles(void) {
         left = -1;
     }
     check("a manager is written", 1, answer == SNMPSEC_OK && manager);
+    no_calls(agent, manager);
     snmpsec_inside_free_handle(agent, proved_agent_clear);
     snmpsec_inside_free_handle(manager, proved_manager_clear);
 }

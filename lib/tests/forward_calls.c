@@ -4,6 +4,7 @@
  * test plays, and refused memory. The captured datagrams are of SNMPv3, so none of them is a device's Trap. Not proved. */
 #define _GNU_SOURCE
 #include "checks.h"
+#include "proved.h"
 #include <malloc.h>
 #include <stdio.h>
 #include <string.h>
@@ -438,6 +439,18 @@ static void refused_memory_of_informs(void) {
     snmpsec_agent_free(agent);
 }
 
+/* A number that is no call's: it is answered so, and nothing is written. */
+static void no_calls(void) {
+    static const uint8_t none[16];
+    const proved_forward_asked asked = {.call = PROVED_FORWARD_INFO + 1, .datagram = {none, 0}};
+    proved_forward_said said = {.event = 7, .why = 7};
+    snmpsec_forward *forward;
+    check("new", 0, made(text, &forward));
+    check("no call", SNMPSEC_BAD_ARGUMENT, proved_forward_call(forward, &asked, &said));
+    check("nothing is written", 1, said.event == 7 && said.why == 7);
+    snmpsec_forward_free(forward);
+}
+
 /* Freeing gives back all, and wants no memory for that: as much is held after each further forwarder. */
 static void given_back(void) {
     enum { ROUNDS = 4 };
@@ -467,6 +480,7 @@ int main(int argc, char **argv) {
     settings();
     refused_memory();
     refused_memory_of_informs();
+    no_calls();
     given_back();
     return checks_told();
 }

@@ -3,6 +3,7 @@
  * Null pointers, refused configurations, buffers that are too short, what the configuration says, refused datagrams, and refused memory. The captured
  * datagrams are refused by the gateway, since they are for another engine. Not proved. */
 #include "checks.h"
+#include "proved.h"
 #include <stdio.h>
 #include <string.h>
 
@@ -74,7 +75,8 @@ static void views_of(int (*make)(const char *, snmpsec_gate **)) {
 static void nobody_answered(void) {
     snmpsec_gate *gate;
     snmpsec_gate_event event = SNMPSEC_GATE_BEGINS;
-    snmpsec_gate_info info = {1, 1, 1, 1, 1, 1, 1, 1, 1, 1};
+    snmpsec_gate_info info;
+    memset(&info, 1, sizeof info);
     static const snmpsec_gate_info none;
     int why = 0;
     check("read", 0, read_of(text, &gate));
@@ -252,6 +254,24 @@ static void made_of_enough(int (*make)(const char *, snmpsec_gate **), snmpsec_g
     check("made, once there is enough", 0, answer);
 }
 
+/* A number that is no call's, nor what is copied: it is answered so, and nothing is written. */
+static void no_calls(void) {
+    static const uint8_t none[16];
+    static const uint32_t no_arcs[4];
+    const proved_octets octets = {none, 0};
+    const proved_gate_asked asked = {.call = PROVED_GATE_COUNT + 1, .client = octets, .datagram = octets, .arcs = {no_arcs, 0}};
+    proved_gate_said said = {.event = 7, .why = 7};
+    snmpsec_gate *gate;
+    uint8_t out[1] = {7};
+    size_t written = 7;
+    check("made", 0, made(text, &gate));
+    check("no call", SNMPSEC_BAD_ARGUMENT, proved_gate_call(gate, &asked, &said));
+    check("nothing is copied", SNMPSEC_BAD_ARGUMENT, proved_gate_copy(gate, PROVED_GATE_SETTING + 1, 0, 0, out, 1, &written));
+    check("no setting", SNMPSEC_BAD_ARGUMENT, proved_gate_copy(gate, PROVED_GATE_SETTING, 11, 0, out, 1, &written));
+    check("nothing is written", 1, said.event == 7 && said.why == 7 && out[0] == 7 && written == 7);
+    snmpsec_gate_free(gate);
+}
+
 /* Nothing is lost. */
 static void refused_memory(void) {
     snmpsec_gate *gate;
@@ -278,6 +298,7 @@ int main(int argc, char **argv) {
     nothing_given();
     datagrams_refused();
     hidden_counted();
+    no_calls();
     refused_memory();
     return checks_told();
 }

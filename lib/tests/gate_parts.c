@@ -12,7 +12,7 @@
 /* ---- requests that wait */
 
 enum { MOST = 3000, STEPS = 200000 };
-static struct { uint64_t number; uint32_t messages, times, ask_id; } plain[MOST];
+static struct { uint64_t number; uint32_t messages, times; } plain[MOST];
 static size_t plain_len;
 static uint64_t state = 1, next_number = 1;
 
@@ -34,18 +34,17 @@ static void begin_one(void) {
     struct client client = {.listener = 1};
     plain[plain_len].number = next_number;
     plain[plain_len].messages = 1;
-    plain[plain_len].times = plain[plain_len].ask_id = 0;
-    waiting_begins(next_number, &client, (const uint8_t *)&next_number, sizeof next_number, next_number);
+    plain[plain_len].times = 0;
+    waiting_begins(next_number, &client, (const uint8_t *)&next_number, sizeof next_number);
     plain_len++;
     next_number += 1 + made(3);
 }
 
 static void ask_one(size_t i) {
-    struct pdu pdu = {.tag = 0xA0, .request_id = 1 + made(2), .names = 1};
-    bool is_again = plain[i].times && plain[i].ask_id == pdu.request_id;
+    struct pdu pdu = {.tag = 0xA0, .request_id = 1, .names = 1};
+    bool is_again = plain[i].times && made(2);
     plain[i].times = is_again ? plain[i].times + 1 : 1;
-    plain[i].ask_id = pdu.request_id;
-    check("asked again", is_again, waiting_asks(plain[i].number, &pdu));
+    waiting_asks(plain[i].number, &pdu, is_again);
 }
 
 static void end_one(size_t i) {
@@ -121,38 +120,15 @@ static void what_was_asked(void) {
     of_one[20] = 1;
     check("an ask", 1, pdu_of(of_one, sizeof of_one, &ask));
     check("an answer", 1, pdu_of(asked, sizeof asked, &answer));
-    waiting_begins(1, &client, (const uint8_t *)"ann", 3, 7);
-    check("it is asked", 0, waiting_asks(1, &ask));
+    waiting_begins(1, &client, (const uint8_t *)"ann", 3);
+    waiting_asks(1, &ask, false);
     asked_is(waiting_of(1), &answer, 1, "1.3.6.1.2.1.1.5.0");
     asked_is(waiting_of(1), &answer, 2, "1.3.6.1.2.1.1.4.0");
     asked_is(waiting_of(1), &answer, 3, "1.3.6.1.2.1.1.4.0");
     asked_is(waiting_of(1), &answer, 9, "");
     check("no third name", 0, name_of(ask.list, ask.list_len, 3, &name, &len));
     check("no name before the first", 0, name_of(ask.list, ask.list_len, 0, &name, &len));
-    answer.status = 0;
-    waiting_answers(1, &answer, true);
-    check("what ends with genErr took too many rounds", 1, waiting_used_up(waiting_of(1)));
-    waiting_answers(1, &answer, false);
-    check("but not by an answer that doesn't fit", 0, waiting_used_up(waiting_of(1)));
-    answer.status = 5;
-    waiting_answers(1, &answer, true);
-    check("nor by an error of the device", 0, waiting_used_up(waiting_of(1)));
     waiting_ends(1);
-}
-
-static void sets_again(void) {
-    struct client client = {.listener = 1};
-    struct pdu set = {.tag = 0xA3, .request_id = 1, .names = 1};
-    uint64_t digest = digest_of(asked, sizeof asked);
-    check("another datagram has another digest", 1, digest != digest_of(answered, sizeof answered));
-    waiting_begins(2, &client, (const uint8_t *)"ann", 3, digest);
-    check("a Set for the first time", 0, waiting_of(2)->is_repeated);
-    (void)waiting_asks(2, &set);
-    waiting_begins(3, &client, (const uint8_t *)"ann", 3, digest);
-    check("and again", 1, waiting_of(3)->is_repeated);
-    waiting_begins(4, &client, (const uint8_t *)"ann", 3, 0);
-    check("another request is no Set of before", 0, waiting_of(4)->is_repeated);
-    waiting_clear();
 }
 
 /* The request of this number asks in this context, which lines have so. */
@@ -168,7 +144,7 @@ static void contexts(void) {
     char words[IN_CONTEXT_WORDS] = "x";
     in_context_words(NULL, words);
     check("no request", 0, strcmp(words, ""));
-    waiting_begins(1, &client, (const uint8_t *)"ann", 3, 0);
+    waiting_begins(1, &client, (const uint8_t *)"ann", 3);
     in_context_words(waiting_of(1), words);
     check("a context that isn't known", 0, strcmp(words, ""));
     in_context(1, "rack-1", 6, ", context rack-1");
@@ -234,7 +210,6 @@ int main(void) {
     requests();
     whole_datagrams();
     what_was_asked();
-    sets_again();
     contexts();
     broken_datagrams();
     names();

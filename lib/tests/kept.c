@@ -191,6 +191,22 @@ static void within(void) {
     count = 9;
     check("no room", SNMPSEC_TOO_LARGE, snmpsec_kept_respond_front(kept, agent, NOW, 0, 0, answer_list, answer_list_len, SALT, 10, &count));
     check("unwritten", 9, (long long)count);
+    check("put back", 0, snmpsec_agent_restore(agent, kept));
+    struct text before = written(agent);
+    check("room for all", 0, snmpsec_agent_fits(agent, NOW, 0, 0, answer_list, answer_list_len, len, &count));
+    check("all", 1, (long long)count);
+    check("less room", 0, snmpsec_agent_fits(agent, NOW, 0, 0, answer_list, answer_list_len, len - 1, &count));
+    check("none", 0, (long long)count);
+    count = 9;
+    check("no room", SNMPSEC_TOO_LARGE, snmpsec_agent_fits(agent, NOW, 0, 0, answer_list, answer_list_len, 10, &count));
+    check("no status", SNMPSEC_BAD_ARGUMENT, snmpsec_agent_fits(agent, NOW, 2147483648u, 0, answer_list, answer_list_len, len, &count));
+    check("no bindings", SNMPSEC_BAD_BINDINGS, snmpsec_agent_fits(agent, NOW, 0, 0, answer_list, answer_list_len - 1, len, &count));
+    check("no count", SNMPSEC_BAD_ARGUMENT, snmpsec_agent_fits(agent, NOW, 0, 0, answer_list, answer_list_len, len, NULL));
+    check("unwritten", 9, (long long)count);
+    struct text after = written(agent);
+    check("what is to be sent stays", 1, is_same(&before, &after));
+    check("taken out", 0, snmpsec_agent_keep(agent, &kept));
+    check("nothing is kept", SNMPSEC_NOTHING_TAKEN, snmpsec_agent_fits(agent, NOW, 0, 0, answer_list, answer_list_len, len, &count));
     snmpsec_kept_free(kept);
     end();
 }

@@ -1,6 +1,6 @@
 #!/usr/bin/env python3
-"""Has the C compiler compare the header with the Python module and the Rust crate, and proved.h with the exports of
-crates/snmp_c: signatures.py [LIBRARY [CC..]]
+"""Has the C compiler compare what tools/write-calls writes: the header with the Python module and the Rust crate. And
+proved.h with the exports of crates/snmp_c: signatures.py [LIBRARY [CC..]]
 
 Each signature becomes a declaration beside the header's, and each field and number an assertion, so the compiler
 refuses what differs. Where the shared library is named, its names are compared too, with those of the header and of
@@ -16,7 +16,7 @@ import sys
 LIB = pathlib.Path(__file__).resolve().parents[1]
 sys.path.insert(0, str(LIB / "python/src"))
 import snmpsec  # noqa: E402
-from snmpsec import _library, forward, gate  # noqa: E402
+from snmpsec import _calls, forward, gate  # noqa: E402
 
 HEADER = (LIB / "include/snmpsec.h").read_text()
 DECLARED = set(re.findall(r"\bsnmpsec_(\w+)\(", HEADER))
@@ -32,7 +32,7 @@ STRUCTS = {
     "Report": "report",
     "Reply": "reply",
     "Answered": "answered",
-    "Heard": "answered",
+    "AnsweredRead": "answered",
     "Device": "device",
     "Clock": "clock",
     "ConfigPlace": "config_place",
@@ -44,7 +44,7 @@ STRUCTS = {
     "Scoped": "scoped",
     "BindingRead": "binding",
 }
-READ = {"Octets", "Notice", "Request", "Sealing", "Scoped", "Heard"}  # structs that a call only reads
+READ = {"Octets", "Notice", "Request", "Sealing", "Scoped", "AnsweredRead"}  # structs that a call only reads
 
 
 def snake(name):
@@ -80,12 +80,12 @@ PYTHON_TYPES = {
     ctypes.POINTER(ctypes.c_uint64): "uint64_t *",
     ctypes.POINTER(ctypes.c_int): "int *",
     ctypes.POINTER(ctypes.c_uint32): "const uint32_t *",
-    ctypes.POINTER(_library.Enumeration): "uint32_t *",
-    ctypes.POINTER(_library.Written): "uint32_t *",
-    _library.Octets: "snmpsec_octets",
+    ctypes.POINTER(_calls.Enumeration): "uint32_t *",
+    ctypes.POINTER(_calls.Written): "uint32_t *",
+    _calls.Octets: "snmpsec_octets",
 }
 for _name, _c in STRUCTS.items():
-    PYTHON_TYPES[ctypes.POINTER(getattr(_library, _name))] = f"{'const ' * (_name in READ)}snmpsec_{_c} *"
+    PYTHON_TYPES[ctypes.POINTER(getattr(_calls, _name))] = f"{'const ' * (_name in READ)}snmpsec_{_c} *"
 PYTHON_NAMES = {
     "ALLOWED": "ACCESS_ALLOWED",
     "GET": "GET_REQUEST",
@@ -99,9 +99,9 @@ PYTHON_NAMES = {
 
 
 def python_signatures():
-    for name, (result, arguments) in _library.SIGNATURES.items():
+    for name, (result, arguments) in _calls.SIGNATURES.items():
         of = {**PYTHON_TYPES, ctypes.c_void_p: handle_of(name), ctypes.POINTER(ctypes.c_void_p): handle_of(name) + "*",
-              _library.Other: other_of(name), ctypes.POINTER(_library.Other): other_of(name) + "*"}
+              _calls.Other: other_of(name), ctypes.POINTER(_calls.Other): other_of(name) + "*"}
         yield declared(
             name, "const char *" if result is ctypes.c_char_p else of[result], [of[one] for one in arguments]
         )
@@ -109,7 +109,7 @@ def python_signatures():
 
 def python_fields():
     for python, c in STRUCTS.items():
-        struct = getattr(_library, python)
+        struct = getattr(_calls, python)
         yield f"sizeof(snmpsec_{c}) == {ctypes.sizeof(struct)}"
         for name, *_ in struct._fields_:
             place = getattr(struct, name)
@@ -121,6 +121,7 @@ PYTHON_PREFIXES = {
     gate.GateEvent: "GATE_",
     gate._Text: "GATE_",
     gate.Misfit: "MISFIT_",
+    gate.Ended: "ENDED_",
     forward.ForwardEvent: "FORWARD_",
     forward.InformMessage: "INFORM_",
 }
@@ -239,12 +240,43 @@ EXPORT_TYPES = {
     "usize": ["size_t"],
     "Global": [],
 }
+# the structs of the archive, as proved.h names them
+ARCHIVE_STRUCT = re.compile(
+    r"^#\[repr\(C\)\]\n(?:#[^\n]*\n)*pub struct (\w+)(?:<'a>)? \{\n(.*?)^\}", re.MULTILINE | re.DOTALL
+)
+FIELD_TYPES = {"&'a [u8]": "proved_octets", "&'a [u32]": "proved_arcs", "bool": "bool"}
+
+
+def c_name(struct):
+    return f"proved_{snake(struct).lower()}"
+
+
+def archive_text(crates):
+    return "".join(path.read_text() for path in sorted((LIB / "../crates").glob(f"{crates}/src/*.rt")))
+
+
+def archive_structs():
+    """A declaration of each struct of the archive under a name of its own, and that its fields lie as in proved.h."""
+    texts, facts = [], []
+    for name, body in ARCHIVE_STRUCT.findall(archive_text("*")):
+        c = c_name(name)
+        EXPORT_TYPES[f"&{name}"] = EXPORT_TYPES[f"&{name}<'_>"] = [f"const {c} *"]
+        EXPORT_TYPES[f"&mut {name}"] = [f"{c} *"]
+        fields = re.findall(r"^    pub (\w+): (.*),$", body, re.M)
+        own = "".join(f" {(FIELD_TYPES.get(kind) or ''.join(EXPORT_TYPES.get(kind, [])) or c_name(kind))} {field};" for field, kind in fields)
+        texts.append(f"typedef struct {{{own} }} archive_{c};")
+        facts.append(f"sizeof({c}) == sizeof(archive_{c})")
+        facts += [
+            f"offsetof({c}, {field}) == offsetof(archive_{c}, {field})"
+            f" && sizeof((({c} *)0)->{field}) == sizeof(((archive_{c} *)0)->{field})"
+            for field, _ in fields
+        ]
+    return "\n".join(texts) + "\n", facts
 
 
 def exports():
-    text = "".join(path.read_text() for path in sorted((LIB / "../crates/snmp_c/src").glob("*.rt")))
     for name, arguments, result in re.findall(
-        r'pub (?:unsafe )?extern "C" fn proved_(\w+)\(([^)]*)\)\s*->\s*(\w+)', text
+        r'pub (?:unsafe )?extern "C" fn proved_(\w+)\(([^)]*)\)\s*->\s*(\w+)', archive_text("snmp_c")
     ):
         kinds = [
             kind for one in arguments.split(",") if one.strip() for kind in EXPORT_TYPES[one.split(":")[1].strip()]
@@ -280,9 +312,10 @@ def main():
     library, compiler = sys.argv[1:2], sys.argv[2:] or ["cc"]
     python, rust = list(python_signatures()), list(rust_signatures())
     structs, fields = rust_structs()
-    facts = [*python_fields(), *python_numbers(), *fields, *rust_numbers()]
+    archived, places = archive_structs()
+    facts = [*python_fields(), *python_numbers(), *fields, *rust_numbers(), *places]
     of_archive = dict(exports())
-    text = "#include <stddef.h>\n#include <snmpsec.h>\n#include <proved.h>\n" + structs
+    text = "#include <stddef.h>\n#include <snmpsec.h>\n#include <proved.h>\n" + structs + archived
     text += (
         "\n".join([*python, *rust, *of_archive.values(), *(f'_Static_assert({fact}, "{fact}");' for fact in facts)])
         + "\n"

@@ -113,6 +113,10 @@ static void agent_take(void) { answer = snmpsec_agent_take(agent, NOW, message, 
 static void respond(void) { answer = snmpsec_agent_respond(agent, NOW, 0, 0, list, list_len, id); }
 static snmpsec_kept *kept;
 static void agent_keep(void) { answer = snmpsec_agent_keep(agent, &kept); }
+static void fits(void) {
+    size_t count;
+    answer = snmpsec_agent_fits(agent, NOW, 0, 0, list, list_len, 484, &count);
+}
 static void kept_respond(void) { answer = snmpsec_kept_respond(kept, agent, NOW, 0, 0, list, list_len, id); }
 static void kept_free(void) { snmpsec_kept_free(kept); answer = 0; }
 static void manager_take(void) { answer = snmpsec_manager_take(manager, NOW, message, len); }
@@ -279,6 +283,7 @@ int main(int argc, char **argv) {
         measure("agent_take", agent_take, SNMPSEC_STACK);
         if (!answer) {
             measure("respond", respond, SNMPSEC_STACK);
+            measure("fits", fits, SNMPSEC_STACK);
             measure("agent_keep", agent_keep, SNMPSEC_STACK);
             measure("kept_respond", kept_respond, SNMPSEC_STACK);
             measure("kept_free", kept_free, SNMPSEC_FREE_STACK);

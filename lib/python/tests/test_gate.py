@@ -4,7 +4,7 @@ import tempfile
 import unittest
 
 import snmpsec
-from snmpsec import Gate, GateEvent, Level, Manager, Misfit, Part, Pdu, Refusal, datagram_user, gate_fault
+from snmpsec import Ended, Gate, GateEvent, Level, Manager, Misfit, Part, Pdu, Refusal, datagram_user, gate_fault
 from test_snmpsec import ALLOWING, BOOTS, HELLO, NOW, TIME, ask
 
 GATE = b"""
@@ -87,6 +87,7 @@ class Gateway(unittest.TestCase):
             self.assertEqual(self.gate.waiting(), 1)
             sent = self.gate.next(MOMENT, 10 * number, number)
             self.assertEqual((sent.event, sent.device, sent.client, sent.why), (GateEvent.TO_DEVICE, 0, None, None))
+            self.assertEqual((sent.again, sent.ended), (False, None))
             self.assertIn(b"reads", sent.datagram)
             self.assertGreater(self.gate.due(), MOMENT)
             answer = answered(sent.datagram, HELLO)
@@ -97,7 +98,7 @@ class Gateway(unittest.TestCase):
             for more in (1, 2):
                 sent = self.gate.next(MOMENT, 10 * number + more, 1)
                 self.assertEqual((sent.event, sent.client, sent.device), (GateEvent.TO_CLIENT, b"client", None))
-                self.assertEqual((sent.error_status, sent.error_index), (0, 0))
+                self.assertEqual((sent.error_status, sent.error_index, sent.ended), (0, 0, Ended.BY_ANSWER))
                 self.assertIsNone(self.manager.take(NOW, sent.datagram))
                 self.assertEqual(self.manager.part(Part.BINDINGS), HELLO)
             self.assertIsNone(self.gate.next(MOMENT, 10 * number + 3, 1))
@@ -156,6 +157,7 @@ class Gateway(unittest.TestCase):
         self.gate.take_client(MOMENT, b"client", self.ask(2, Level.AUTH_PRIV, context=b"other"))
         sent = self.gate.next(MOMENT, 1, 1)
         self.assertEqual((sent.error_status, sent.error_index), (None, None))
+        self.assertEqual((sent.ended, sent.unhandled), (Ended.UNHANDLED, snmpsec.Unhandled.UNKNOWN_CONTEXTS))
         self.manager.take(NOW, sent.datagram)
         self.assertEqual(self.manager.report().counter, snmpsec.Unhandled.UNKNOWN_CONTEXTS)
         self.assertEqual(self.gate.counts().unknown_contexts, 1)

@@ -359,6 +359,8 @@ class Sealed(unittest.TestCase):
             self.assertEqual((level, Pdu.GET_BULK, -1, self.LEAST, self.GREATEST, 7), self.agent.info())
             self.assertEqual((484, ASKED), (self.agent.max_size(), self.agent.part(Part.BINDINGS)))
             self.assertIsNone(self.manager.clock(ENGINE))
+        self.assertEqual((1, 0), (self.agent.fits(NOW, HELLO, 484), self.agent.fits(NOW, snmpsec.binding(NAME, 4, bytes(600)), 484)))
+        self.assertRaises(snmpsec.BadBindings, self.agent.fits, NOW, b"junk", 484)
         self.agent.respond(NOW, HELLO, 2)
         self.assertIsNone(self.manager.take(NOW, self.agent.message()))
         self.assertEqual((-1, 7), (self.manager.info().request_id, self.manager.info().message_id))

@@ -1,12 +1,12 @@
 //! An agent.
 
 use crate::calls::{
-    self, snmpsec_agent_access, snmpsec_agent_counters, snmpsec_agent_counts, snmpsec_agent_free,
-    snmpsec_agent_info, snmpsec_agent_max_size, snmpsec_agent_message, snmpsec_agent_new,
-    snmpsec_agent_next, snmpsec_agent_notify, snmpsec_agent_part, snmpsec_agent_reconfigure,
-    snmpsec_agent_refuse, snmpsec_agent_respond, snmpsec_agent_respond_front,
-    snmpsec_agent_respond_within, snmpsec_agent_silent_drop, snmpsec_agent_take,
-    snmpsec_agent_unhandled, snmpsec_agent_user_access, snmpsec_status_of,
+    self, snmpsec_agent_access, snmpsec_agent_counters, snmpsec_agent_counts, snmpsec_agent_fits,
+    snmpsec_agent_free, snmpsec_agent_info, snmpsec_agent_max_size, snmpsec_agent_message,
+    snmpsec_agent_new, snmpsec_agent_next, snmpsec_agent_notify, snmpsec_agent_part,
+    snmpsec_agent_reconfigure, snmpsec_agent_refuse, snmpsec_agent_respond,
+    snmpsec_agent_respond_front, snmpsec_agent_respond_within, snmpsec_agent_silent_drop,
+    snmpsec_agent_take, snmpsec_agent_unhandled, snmpsec_agent_user_access, snmpsec_status_of,
 };
 use crate::fault::{done, Error};
 use crate::held::{Calls, Held};
@@ -277,6 +277,32 @@ impl Agent {
                 bindings.as_ptr(),
                 bindings.len(),
                 salt,
+                limit,
+                &mut count,
+            )
+        })?;
+        Ok(count)
+    }
+
+    /// How many of the bindings, from the first on, have room in that Response, as `respond_front` would say. Nothing
+    /// is sealed or written.
+    pub fn fits(
+        &self,
+        now: u64,
+        error_status: u32,
+        error_index: u32,
+        bindings: &[u8],
+        limit: u32,
+    ) -> Result<usize, Error> {
+        let mut count = 0;
+        done(unsafe {
+            snmpsec_agent_fits(
+                self.held.at(),
+                now,
+                error_status,
+                error_index,
+                bindings.as_ptr(),
+                bindings.len(),
                 limit,
                 &mut count,
             )

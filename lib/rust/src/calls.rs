@@ -1,11 +1,12 @@
-//! The header's signatures again: `lib/tests/signatures.py` has the C compiler compare them with the header. An
-//! enumeration is a `u32`.
+//! The header's structs and signatures. Written of lib/calls.toml by tools/write-calls.
+//!
+//! An enumeration is a `u32`.
 //!
 //! Why the calls of this crate are sound: a handle is a `Held`'s, which one thread uses at a time and which is freed
 //! once; and each pointer is that of a slice beside its length, or of a number or a struct.
 
+use crate::octets::Octets;
 use std::ffi::{c_char, c_void};
-use std::marker::PhantomData;
 
 #[repr(C)]
 pub struct Opaque {
@@ -16,27 +17,8 @@ pub struct Opaque {
 /// or an agent, in a call on a message that is kept.
 pub type Other = Opaque;
 
-/// Octets of a slice.
 #[repr(C)]
-#[derive(Clone, Copy)]
-pub struct Octets<'a> {
-    at: *const u8,
-    len: usize,
-    _of: PhantomData<&'a [u8]>,
-}
-
-impl<'a> From<&'a [u8]> for Octets<'a> {
-    fn from(octets: &'a [u8]) -> Self {
-        Octets {
-            at: octets.as_ptr(),
-            len: octets.len(),
-            _of: PhantomData,
-        }
-    }
-}
-
-#[repr(C)]
-#[derive(Default)]
+#[derive(Clone, Copy, Debug, Default)]
 pub struct Info {
     pub level: i32,
     pub pdu: i32,
@@ -47,73 +29,7 @@ pub struct Info {
 }
 
 #[repr(C)]
-#[derive(Default)]
-pub struct Counters {
-    pub unsupported_levels: u32,
-    pub not_in_windows: u32,
-    pub unknown_users: u32,
-    pub unknown_engines: u32,
-    pub wrong_digests: u32,
-    pub decryption_errors: u32,
-}
-
-#[repr(C)]
-#[derive(Default)]
-pub struct Counts {
-    pub unknown_pdu_handlers: u32,
-    pub unavailable_contexts: u32,
-    pub unknown_contexts: u32,
-    pub bad_versions: u32,
-    pub asn_parse_errors: u32,
-    pub unknown_security_models: u32,
-    pub invalid_messages: u32,
-    pub silent_drops: u32,
-}
-
-#[repr(C)]
-#[derive(Default)]
-pub struct Report {
-    pub counter: i32,
-    pub value: u32,
-    pub has_value: bool,
-    pub is_authenticated: bool,
-}
-
-#[repr(C)]
-#[derive(Default)]
-pub struct Reply {
-    pub kind: u32,
-    pub counter: i32,
-}
-
-#[repr(C)]
 #[derive(Clone, Copy, Debug, Default)]
-pub struct Device {
-    pub level: u32,
-    pub sent: u32,
-    pub again: u32,
-    pub counter: i32,
-    pub is_authentic: bool,
-}
-
-#[repr(C)]
-#[derive(Default)]
-pub struct Answered {
-    pub kind: u32,
-    pub counter: i32,
-    pub is_authentic: bool,
-    pub token: u64,
-}
-
-#[repr(C)]
-#[derive(Default)]
-pub struct Clock {
-    pub boots: u32,
-    pub time: u32,
-}
-
-#[repr(C)]
-#[derive(Default)]
 pub struct ConfigPlace {
     pub table: usize,
     pub position: usize,
@@ -122,33 +38,7 @@ pub struct ConfigPlace {
 }
 
 #[repr(C)]
-#[derive(Default)]
-pub struct ForwardInfo {
-    pub notification: u64,
-    pub receiver: u64,
-    pub waiting: u64,
-    pub inform: u64,
-    pub informs: u64,
-    pub message: u64,
-    pub counter: u64,
-}
-
-#[repr(C)]
-#[derive(Default)]
-pub struct GateInfo {
-    pub request: u64,
-    pub device: u64,
-    pub waiting: u64,
-    pub status: u64,
-    pub index: u64,
-    pub is_report: u64,
-    pub misfit: u64,
-    pub binding: u64,
-    pub hidden: u64,
-    pub pdu: u64,
-}
-
-#[repr(C)]
+#[derive(Clone, Copy)]
 pub struct Notice<'a> {
     pub message_id: u32,
     pub request_id: u32,
@@ -161,6 +51,47 @@ pub struct Notice<'a> {
 }
 
 #[repr(C)]
+#[derive(Clone, Copy, Debug, Default)]
+pub struct Counters {
+    pub unsupported_levels: u32,
+    pub not_in_windows: u32,
+    pub unknown_users: u32,
+    pub unknown_engines: u32,
+    pub wrong_digests: u32,
+    pub decryption_errors: u32,
+}
+
+#[repr(C)]
+#[derive(Clone, Copy, Debug, Default)]
+pub struct Counts {
+    pub unknown_pdu_handlers: u32,
+    pub unavailable_contexts: u32,
+    pub unknown_contexts: u32,
+    pub bad_versions: u32,
+    pub asn_parse_errors: u32,
+    pub unknown_security_models: u32,
+    pub invalid_messages: u32,
+    pub silent_drops: u32,
+}
+
+#[repr(C)]
+#[derive(Clone, Copy, Debug, Default)]
+pub struct Reply {
+    pub kind: u32,
+    pub counter: i32,
+}
+
+#[repr(C)]
+#[derive(Clone, Copy, Debug, Default)]
+pub struct Report {
+    pub counter: i32,
+    pub value: u32,
+    pub has_value: bool,
+    pub is_authenticated: bool,
+}
+
+#[repr(C)]
+#[derive(Clone, Copy)]
 pub struct Request<'a> {
     pub pdu: u32,
     pub message_id: u32,
@@ -177,6 +108,33 @@ pub struct Request<'a> {
 }
 
 #[repr(C)]
+#[derive(Clone, Copy, Debug, Default)]
+pub struct Answered {
+    pub kind: u32,
+    pub counter: i32,
+    pub is_authentic: bool,
+    pub token: u64,
+}
+
+#[repr(C)]
+#[derive(Clone, Copy, Debug, Default)]
+pub struct Device {
+    pub level: u32,
+    pub sent: u32,
+    pub again: u32,
+    pub counter: i32,
+    pub is_authentic: bool,
+}
+
+#[repr(C)]
+#[derive(Clone, Copy, Debug, Default)]
+pub struct Clock {
+    pub boots: u32,
+    pub time: u32,
+}
+
+#[repr(C)]
+#[derive(Clone, Copy)]
 pub struct Sealing<'a> {
     pub message_id: u32,
     pub max_size: u32,
@@ -191,6 +149,47 @@ pub struct Sealing<'a> {
 }
 
 #[repr(C)]
+#[derive(Clone, Copy, Debug, Default)]
+pub struct GateInfo {
+    pub request: u64,
+    pub device: u64,
+    pub waiting: u64,
+    pub status: u64,
+    pub index: u64,
+    pub is_report: u64,
+    pub misfit: u64,
+    pub binding: u64,
+    pub hidden: u64,
+    pub pdu: u64,
+    pub ended: u64,
+    pub unhandled: u64,
+    pub again: u64,
+}
+
+#[repr(C)]
+#[derive(Clone, Copy, Debug, Default)]
+pub struct ForwardInfo {
+    pub notification: u64,
+    pub receiver: u64,
+    pub waiting: u64,
+    pub inform: u64,
+    pub informs: u64,
+    pub message: u64,
+    pub counter: u64,
+}
+
+#[repr(C)]
+#[derive(Clone, Copy)]
+pub struct BindingRead {
+    pub arcs: [u32; 128],
+    pub arcs_len: usize,
+    pub tag: u8,
+    pub content: *const u8,
+    pub content_len: usize,
+}
+
+#[repr(C)]
+#[derive(Clone, Copy)]
 pub struct Scoped<'a> {
     pub pdu: u32,
     pub request_id: i32,
@@ -201,15 +200,6 @@ pub struct Scoped<'a> {
     pub list: Octets<'a>,
 }
 
-#[repr(C)]
-pub struct BindingRead {
-    pub arcs: [u32; 128],
-    pub arcs_len: usize,
-    pub tag: u8,
-    pub content: *const u8,
-    pub content_len: usize,
-}
-
 extern "C" {
     pub fn snmpsec_version() -> *const c_char;
     pub fn snmpsec_strerror(answer: i32) -> *const c_char;
@@ -218,9 +208,10 @@ extern "C" {
         config_len: usize,
         place: *mut ConfigPlace,
         out: *mut u8,
-        len: usize,
+        out_len: usize,
         written: *mut usize,
     ) -> i32;
+    pub fn snmpsec_agent_free(agent: *mut Opaque);
     pub fn snmpsec_agent_new(
         config: *const u8,
         config_len: usize,
@@ -230,40 +221,43 @@ extern "C" {
         started: u64,
         out: *mut *mut Opaque,
     ) -> i32;
-    pub fn snmpsec_agent_free(agent: *mut Opaque);
     pub fn snmpsec_agent_reconfigure(
         agent: *mut Opaque,
         config: *const u8,
         config_len: usize,
     ) -> i32;
-    pub fn snmpsec_agent_take(agent: *mut Opaque, now: u64, datagram: *const u8, len: usize)
-        -> i32;
+    pub fn snmpsec_agent_take(
+        agent: *mut Opaque,
+        now: u64,
+        datagram: *const u8,
+        datagram_len: usize,
+    ) -> i32;
     pub fn snmpsec_agent_info(agent: *mut Opaque, out: *mut Info) -> i32;
     pub fn snmpsec_agent_part(
         agent: *mut Opaque,
         part: u32,
         out: *mut u8,
-        len: usize,
+        out_len: usize,
         written: *mut usize,
     ) -> i32;
     pub fn snmpsec_agent_message(
         agent: *mut Opaque,
         out: *mut u8,
-        len: usize,
+        out_len: usize,
         written: *mut usize,
     ) -> i32;
     pub fn snmpsec_agent_access(
         agent: *mut Opaque,
         view: u32,
         arcs: *const u32,
-        len: usize,
+        arcs_len: usize,
         out: *mut u32,
     ) -> i32;
     pub fn snmpsec_agent_next(
         agent: *mut Opaque,
         view: u32,
         arcs: *const u32,
-        len: usize,
+        arcs_len: usize,
         out: *mut u32,
         out_len: usize,
         written: *mut usize,
@@ -275,7 +269,7 @@ extern "C" {
         context: Octets<'_>,
         view: u32,
         arcs: *const u32,
-        len: usize,
+        arcs_len: usize,
         out: *mut u32,
     ) -> i32;
     pub fn snmpsec_agent_respond(
@@ -284,16 +278,17 @@ extern "C" {
         error_status: u32,
         error_index: u32,
         list: *const u8,
-        len: usize,
+        list_len: usize,
         salt: u64,
     ) -> i32;
+    pub fn snmpsec_agent_max_size(agent: *mut Opaque, out: *mut u32) -> i32;
     pub fn snmpsec_agent_respond_within(
         agent: *mut Opaque,
         now: u64,
         error_status: u32,
         error_index: u32,
         list: *const u8,
-        len: usize,
+        list_len: usize,
         salt: u64,
         limit: u32,
     ) -> i32;
@@ -303,19 +298,27 @@ extern "C" {
         error_status: u32,
         error_index: u32,
         list: *const u8,
-        len: usize,
+        list_len: usize,
         salt: u64,
         limit: u32,
         count: *mut usize,
     ) -> i32;
-    pub fn snmpsec_agent_max_size(agent: *mut Opaque, out: *mut u32) -> i32;
+    pub fn snmpsec_agent_fits(
+        agent: *mut Opaque,
+        now: u64,
+        error_status: u32,
+        error_index: u32,
+        list: *const u8,
+        list_len: usize,
+        limit: u32,
+        count: *mut usize,
+    ) -> i32;
     pub fn snmpsec_agent_unhandled(agent: *mut Opaque, out: *mut u32) -> i32;
     pub fn snmpsec_agent_refuse(agent: *mut Opaque, now: u64, why: u32, salt: u64) -> i32;
     pub fn snmpsec_agent_silent_drop(agent: *mut Opaque) -> i32;
+    pub fn snmpsec_kept_free(kept: *mut Opaque);
     pub fn snmpsec_agent_keep(agent: *mut Opaque, out: *mut *mut Other) -> i32;
     pub fn snmpsec_agent_restore(agent: *mut Opaque, kept: *mut Other) -> i32;
-
-    pub fn snmpsec_kept_free(kept: *mut Opaque);
     pub fn snmpsec_kept_info(kept: *mut Opaque, out: *mut Info) -> i32;
     pub fn snmpsec_kept_part(
         kept: *mut Opaque,
@@ -358,10 +361,11 @@ extern "C" {
         limit: u32,
         count: *mut usize,
     ) -> i32;
-    pub fn snmpsec_agent_counts(agent: *mut Opaque, out: *mut Counts) -> i32;
     pub fn snmpsec_status_of(access: u32, pdu: u32, out: *mut u32) -> i32;
     pub fn snmpsec_agent_notify(agent: *mut Opaque, now: u64, notice: *const Notice<'_>) -> i32;
     pub fn snmpsec_agent_counters(agent: *mut Opaque, out: *mut Counters) -> i32;
+    pub fn snmpsec_agent_counts(agent: *mut Opaque, out: *mut Counts) -> i32;
+    pub fn snmpsec_manager_free(manager: *mut Opaque);
     pub fn snmpsec_manager_new(
         config: *const u8,
         config_len: usize,
@@ -370,25 +374,24 @@ extern "C" {
         now: u64,
         out: *mut *mut Opaque,
     ) -> i32;
-    pub fn snmpsec_manager_free(manager: *mut Opaque);
     pub fn snmpsec_manager_take(
         manager: *mut Opaque,
         now: u64,
         datagram: *const u8,
-        len: usize,
+        datagram_len: usize,
     ) -> i32;
     pub fn snmpsec_manager_info(manager: *mut Opaque, out: *mut Info) -> i32;
     pub fn snmpsec_manager_part(
         manager: *mut Opaque,
         part: u32,
         out: *mut u8,
-        len: usize,
+        out_len: usize,
         written: *mut usize,
     ) -> i32;
     pub fn snmpsec_manager_message(
         manager: *mut Opaque,
         out: *mut u8,
-        len: usize,
+        out_len: usize,
         written: *mut usize,
     ) -> i32;
     pub fn snmpsec_manager_reply(manager: *mut Opaque, out: *mut Reply) -> i32;
@@ -425,13 +428,13 @@ extern "C" {
     pub fn snmpsec_manager_absorb(
         manager: *mut Opaque,
         text: *const u8,
-        len: usize,
+        text_len: usize,
         now: u64,
     ) -> i32;
     pub fn snmpsec_manager_save(
         manager: *mut Opaque,
         out: *mut u8,
-        len: usize,
+        out_len: usize,
         written: *mut usize,
     ) -> i32;
     pub fn snmpsec_manager_clock(
@@ -441,6 +444,132 @@ extern "C" {
         out: *mut Clock,
     ) -> i32;
     pub fn snmpsec_manager_seal(manager: *mut Opaque, sealing: *const Sealing<'_>) -> i32;
+    pub fn snmpsec_gate_free(gate: *mut Opaque);
+    pub fn snmpsec_gate_fault(
+        config: *const u8,
+        config_len: usize,
+        out: *mut u8,
+        out_len: usize,
+        written: *mut usize,
+    ) -> i32;
+    pub fn snmpsec_gate_new(
+        config: *const u8,
+        config_len: usize,
+        boots: u32,
+        started: u64,
+        out: *mut *mut Opaque,
+    ) -> i32;
+    pub fn snmpsec_gate_read(config: *const u8, config_len: usize, out: *mut *mut Opaque) -> i32;
+    pub fn snmpsec_gate_setting(
+        gate: *mut Opaque,
+        text: u32,
+        position: usize,
+        out: *mut u8,
+        out_len: usize,
+        written: *mut usize,
+    ) -> i32;
+    pub fn snmpsec_gate_take_client(
+        gate: *mut Opaque,
+        now: u64,
+        client: *const u8,
+        client_len: usize,
+        datagram: *const u8,
+        datagram_len: usize,
+        event: *mut u32,
+    ) -> i32;
+    pub fn snmpsec_gate_take_device(
+        gate: *mut Opaque,
+        now: u64,
+        device: usize,
+        datagram: *const u8,
+        datagram_len: usize,
+        event: *mut u32,
+    ) -> i32;
+    pub fn snmpsec_gate_next(
+        gate: *mut Opaque,
+        now: u64,
+        salt: u64,
+        ask_id: u32,
+        event: *mut u32,
+        why: *mut i32,
+    ) -> i32;
+    pub fn snmpsec_gate_due(gate: *mut Opaque, at: *mut u64) -> i32;
+    pub fn snmpsec_gate_message(
+        gate: *mut Opaque,
+        out: *mut u8,
+        out_len: usize,
+        written: *mut usize,
+    ) -> i32;
+    pub fn snmpsec_gate_client(
+        gate: *mut Opaque,
+        out: *mut u8,
+        out_len: usize,
+        written: *mut usize,
+    ) -> i32;
+    pub fn snmpsec_gate_context(
+        gate: *mut Opaque,
+        request: u64,
+        out: *mut u8,
+        out_len: usize,
+        written: *mut usize,
+    ) -> i32;
+    pub fn snmpsec_gate_numbers(gate: *mut Opaque, out: *mut GateInfo) -> i32;
+    pub fn snmpsec_gate_counters(gate: *mut Opaque, out: *mut Counters) -> i32;
+    pub fn snmpsec_gate_counts(gate: *mut Opaque, out: *mut Counts) -> i32;
+    pub fn snmpsec_gate_may_notify(
+        gate: *mut Opaque,
+        receiver: usize,
+        device: usize,
+        arcs: *const u32,
+        arcs_len: usize,
+        out: *mut u32,
+    ) -> i32;
+    pub fn snmpsec_datagram_user(
+        datagram: *const u8,
+        datagram_len: usize,
+        out: *mut u8,
+        out_len: usize,
+        written: *mut usize,
+    ) -> i32;
+    pub fn snmpsec_forward_free(forward: *mut Opaque);
+    pub fn snmpsec_forward_new(
+        config: *const u8,
+        config_len: usize,
+        boots: u32,
+        started: u64,
+        out: *mut *mut Opaque,
+    ) -> i32;
+    pub fn snmpsec_forward_take_trap(
+        forward: *mut Opaque,
+        device: usize,
+        datagram: *const u8,
+        datagram_len: usize,
+        event: *mut u32,
+    ) -> i32;
+    pub fn snmpsec_forward_take_receiver(
+        forward: *mut Opaque,
+        now: u64,
+        receiver: usize,
+        datagram: *const u8,
+        datagram_len: usize,
+        event: *mut u32,
+    ) -> i32;
+    pub fn snmpsec_forward_next(
+        forward: *mut Opaque,
+        now: u64,
+        salt: u64,
+        ask_id: u32,
+        event: *mut u32,
+        why: *mut i32,
+    ) -> i32;
+    pub fn snmpsec_forward_due(forward: *mut Opaque, at: *mut u64) -> i32;
+    pub fn snmpsec_forward_message(
+        forward: *mut Opaque,
+        out: *mut u8,
+        out_len: usize,
+        written: *mut usize,
+    ) -> i32;
+    pub fn snmpsec_forward_numbers(forward: *mut Opaque, out: *mut ForwardInfo) -> i32;
     pub fn snmpsec_binding_read(
         list: *const u8,
         list_len: usize,
@@ -454,22 +583,22 @@ extern "C" {
         content: *const u8,
         content_len: usize,
         out: *mut u8,
-        len: usize,
+        out_len: usize,
         written: *mut usize,
     ) -> i32;
     pub fn snmpsec_scoped_write(
         scoped: *const Scoped<'_>,
         out: *mut u8,
-        len: usize,
+        out_len: usize,
         written: *mut usize,
     ) -> i32;
-    pub fn snmpsec_value_is(tag: u8, content: *const u8, len: usize) -> bool;
+    pub fn snmpsec_value_is(tag: u8, content: *const u8, content_len: usize) -> bool;
     pub fn snmpsec_password_key(
         protocol: u32,
         password: *const u8,
         password_len: usize,
         out: *mut u8,
-        len: usize,
+        out_len: usize,
         written: *mut usize,
     ) -> i32;
     pub fn snmpsec_localise(
@@ -479,7 +608,7 @@ extern "C" {
         engine: *const u8,
         engine_len: usize,
         out: *mut u8,
-        len: usize,
+        out_len: usize,
         written: *mut usize,
     ) -> i32;
     pub fn snmpsec_mac(
@@ -492,7 +621,7 @@ extern "C" {
         back: *const u8,
         back_len: usize,
         out: *mut u8,
-        len: usize,
+        out_len: usize,
         written: *mut usize,
     ) -> i32;
     pub fn snmpsec_seal(
@@ -516,130 +645,4 @@ extern "C" {
         text_len: usize,
     ) -> i32;
     pub fn snmpsec_wipe(octets: *mut c_void, octets_len: usize);
-    pub fn snmpsec_gate_free(gate: *mut Opaque);
-    pub fn snmpsec_gate_fault(
-        config: *const u8,
-        config_len: usize,
-        out: *mut u8,
-        len: usize,
-        written: *mut usize,
-    ) -> i32;
-    pub fn snmpsec_gate_read(config: *const u8, config_len: usize, out: *mut *mut Opaque) -> i32;
-    pub fn snmpsec_gate_new(
-        config: *const u8,
-        config_len: usize,
-        boots: u32,
-        started: u64,
-        out: *mut *mut Opaque,
-    ) -> i32;
-    pub fn snmpsec_gate_setting(
-        gate: *mut Opaque,
-        text: u32,
-        position: usize,
-        out: *mut u8,
-        len: usize,
-        written: *mut usize,
-    ) -> i32;
-    pub fn snmpsec_gate_take_client(
-        gate: *mut Opaque,
-        now: u64,
-        client: *const u8,
-        client_len: usize,
-        datagram: *const u8,
-        len: usize,
-        event: *mut u32,
-    ) -> i32;
-    pub fn snmpsec_gate_take_device(
-        gate: *mut Opaque,
-        now: u64,
-        device: usize,
-        datagram: *const u8,
-        len: usize,
-        event: *mut u32,
-    ) -> i32;
-    pub fn snmpsec_gate_next(
-        gate: *mut Opaque,
-        now: u64,
-        salt: u64,
-        ask_id: u32,
-        event: *mut u32,
-        why: *mut i32,
-    ) -> i32;
-    pub fn snmpsec_gate_due(gate: *mut Opaque, at: *mut u64) -> i32;
-    pub fn snmpsec_gate_message(
-        gate: *mut Opaque,
-        out: *mut u8,
-        len: usize,
-        written: *mut usize,
-    ) -> i32;
-    pub fn snmpsec_gate_client(
-        gate: *mut Opaque,
-        out: *mut u8,
-        len: usize,
-        written: *mut usize,
-    ) -> i32;
-    pub fn snmpsec_gate_context(
-        gate: *mut Opaque,
-        request: u64,
-        out: *mut u8,
-        len: usize,
-        written: *mut usize,
-    ) -> i32;
-    pub fn snmpsec_gate_numbers(gate: *mut Opaque, out: *mut GateInfo) -> i32;
-    pub fn snmpsec_gate_counters(gate: *mut Opaque, out: *mut Counters) -> i32;
-    pub fn snmpsec_gate_counts(gate: *mut Opaque, out: *mut Counts) -> i32;
-    pub fn snmpsec_gate_may_notify(
-        gate: *mut Opaque,
-        receiver: usize,
-        device: usize,
-        arcs: *const u32,
-        arcs_len: usize,
-        out: *mut u32,
-    ) -> i32;
-    pub fn snmpsec_forward_free(forward: *mut Opaque);
-    pub fn snmpsec_forward_new(
-        config: *const u8,
-        config_len: usize,
-        boots: u32,
-        started: u64,
-        out: *mut *mut Opaque,
-    ) -> i32;
-    pub fn snmpsec_forward_take_trap(
-        forward: *mut Opaque,
-        device: usize,
-        datagram: *const u8,
-        len: usize,
-        event: *mut u32,
-    ) -> i32;
-    pub fn snmpsec_forward_take_receiver(
-        forward: *mut Opaque,
-        now: u64,
-        receiver: usize,
-        datagram: *const u8,
-        len: usize,
-        event: *mut u32,
-    ) -> i32;
-    pub fn snmpsec_forward_next(
-        forward: *mut Opaque,
-        now: u64,
-        salt: u64,
-        ask_id: u32,
-        event: *mut u32,
-        why: *mut i32,
-    ) -> i32;
-    pub fn snmpsec_forward_due(forward: *mut Opaque, at: *mut u64) -> i32;
-    pub fn snmpsec_forward_message(
-        forward: *mut Opaque,
-        out: *mut u8,
-        len: usize,
-        written: *mut usize,
-    ) -> i32;
-    pub fn snmpsec_forward_numbers(forward: *mut Opaque, out: *mut ForwardInfo) -> i32;
-    pub fn snmpsec_datagram_user(
-        datagram: *const u8,
-        datagram_len: usize,
-        out: *mut u8,
-        len: usize,
-        written: *mut usize,
-    ) -> i32;
 }

@@ -3,14 +3,14 @@
 use crate::agent::{told, Counters, Counts};
 use crate::calls::{
     self, snmpsec_datagram_user, snmpsec_gate_client, snmpsec_gate_context, snmpsec_gate_counters,
-    snmpsec_gate_counts, snmpsec_gate_due, snmpsec_gate_fault, snmpsec_gate_free, snmpsec_gate_may_notify,
-    snmpsec_gate_message, snmpsec_gate_new, snmpsec_gate_next, snmpsec_gate_numbers,
-    snmpsec_gate_read, snmpsec_gate_setting, snmpsec_gate_take_client, snmpsec_gate_take_device,
-    Opaque,
+    snmpsec_gate_counts, snmpsec_gate_due, snmpsec_gate_fault, snmpsec_gate_free,
+    snmpsec_gate_may_notify, snmpsec_gate_message, snmpsec_gate_new, snmpsec_gate_next,
+    snmpsec_gate_numbers, snmpsec_gate_read, snmpsec_gate_setting, snmpsec_gate_take_client,
+    snmpsec_gate_take_device, Opaque,
 };
 use crate::fault::{done, refusal_of, Error, Refusal};
 use crate::held::copied;
-use crate::words::Access;
+use crate::words::{Access, Unhandled};
 use std::ptr::{null_mut, NonNull};
 
 /// The numbers of events.
@@ -121,6 +121,45 @@ pub struct ResponseStatus {
     pub index: u64,
 }
 
+/// The numbers of how a request ended.
+enum EndedNumber {
+    EndedByAnswer = 1,
+    EndedRepeated = 2,
+    EndedRoundsUsedUp = 3,
+    EndedUnhandled = 4,
+    EndedInSilence = 5,
+}
+
+/// How a request ended of which a message is answered, or isn't.
+#[derive(Clone, Copy, Debug, PartialEq, Eq)]
+pub enum Ended {
+    /// By what its device answered, or by an error of the gateway's own.
+    ByAnswer,
+    /// By what its datagram was told before: it is a Set that came again.
+    Repeated,
+    /// By genErr, since its device was asked as often as it may be for one request.
+    RoundsUsedUp,
+    /// No application answers it.
+    Unhandled(Unhandled),
+    /// It was given up, and nothing is said of it.
+    InSilence,
+}
+
+/// How it ended by these numbers.
+fn ended_of(info: &calls::GateInfo) -> Result<Ended, Error> {
+    Ok(match info.ended {
+        it if it == EndedNumber::EndedByAnswer as u64 => Ended::ByAnswer,
+        it if it == EndedNumber::EndedRepeated as u64 => Ended::Repeated,
+        it if it == EndedNumber::EndedRoundsUsedUp as u64 => Ended::RoundsUsedUp,
+        it if it == EndedNumber::EndedUnhandled as u64 => {
+            let why = info.unhandled as u32;
+            Ended::Unhandled(Unhandled::of(why).ok_or(Error::Other(why as i32))?)
+        }
+        it if it == EndedNumber::EndedInSilence as u64 => Ended::InSilence,
+        other => return Err(Error::Other(other as i32)),
+    })
+}
+
 /// What goes out for a request.
 #[derive(Clone, Debug, PartialEq, Eq)]
 pub enum Sent {
@@ -129,18 +168,24 @@ pub enum Sent {
         request: u64,
         client: Vec<u8>,
         says: Option<ResponseStatus>,
+        ended: Ended,
         datagram: Vec<u8>,
     },
-    /// A datagram to the device at this position.
+    /// A datagram to the device at this position; whether it is asked the same again.
     ToDevice {
         request: u64,
         device: usize,
+        again: bool,
         datagram: Vec<u8>,
     },
     /// The device at this position doesn't answer.
     GivenUp { request: u64, device: usize },
     /// A message isn't answered; the reason is a refusal, if there is one.
-    Unanswered { request: u64, why: Option<Refusal> },
+    Unanswered {
+        request: u64,
+        why: Option<Refusal>,
+        ended: Ended,
+    },
 }
 
 /// A device as the configuration says.
@@ -343,17 +388,20 @@ impl Gate {
                     status: info.status,
                     index: info.index,
                 }),
+                ended: ended_of(&info)?,
                 datagram: self.message()?,
             },
             it if it == Event::GateToDevice as u32 => Sent::ToDevice {
                 request,
                 device,
+                again: info.again != 0,
                 datagram: self.message()?,
             },
             it if it == Event::GateGivenUp as u32 => Sent::GivenUp { request, device },
             it if it == Event::GateUnanswered as u32 => Sent::Unanswered {
                 request,
                 why: refusal_of(why),
+                ended: ended_of(&info)?,
             },
             other => return Err(Error::Other(other as i32)),
         })

@@ -162,6 +162,7 @@ mod held;
 mod kept;
 mod keys;
 mod manager;
+mod octets;
 mod words;
 
 pub use agent::{status_of, Agent, Counters, Counts, Notification};
@@ -171,8 +172,8 @@ pub use device::{Device, Known, Step};
 pub use fault::{Error, Refusal};
 pub use forward::{Forwarded, Forwarder, InformMessage, ReceiverTaken, TrapTaken};
 pub use gate::{
-    datagram_user, gate_fault, ClientTaken, DeviceTaken, Gate, GateDevice, GateReceiver, Misfit,
-    ResponseStatus, Sent,
+    datagram_user, gate_fault, ClientTaken, DeviceTaken, Ended, Gate, GateDevice, GateReceiver,
+    Misfit, ResponseStatus, Sent,
 };
 pub use kept::{Kept, Response};
 pub use keys::{localise, mac, open, password_key, seal, wipe, Protocol};

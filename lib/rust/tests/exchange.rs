@@ -215,6 +215,11 @@ fn a_scoped_pdu_is_sealed_under_any_header() {
     assert_eq!((info.level, info.message_id), (Level::AuthPriv, 7));
     assert_eq!(both.agent.max_size(), Ok(484));
     assert_eq!(both.manager.clock(&ENGINE), Err(Error::NothingTaken));
+    assert_eq!(both.agent.fits(NOW, 0, 0, b"", 484), Ok(0));
+    assert_eq!(
+        both.agent.fits(NOW, 0, 0, b"", 10),
+        Err(Error::Refused(Refusal::TooLarge))
+    );
     both.agent.respond(NOW, 0, 0, b"", 2).unwrap();
     assert_eq!(both.manager_takes(), Err(Error::NothingTaken));
     assert_eq!(both.manager.info().unwrap().request_id, -1);

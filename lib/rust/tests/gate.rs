@@ -1,8 +1,9 @@
 //! A manager of the library asks a device that speaks SNMPv2c, through a gateway.
 
 use snmpsec::{
-    binding, datagram_user, gate_fault, ClientTaken, DeviceTaken, Error, Gate, Level, Manager,
-    Misfit, Part, Pdu, Refusal, Reply, Request, ResponseStatus, Sent, NO_CLOCKS,
+    binding, datagram_user, gate_fault, ClientTaken, DeviceTaken, Ended, Error, Gate, Level,
+    Manager, Misfit, Part, Pdu, Refusal, Reply, Request, ResponseStatus, Sent, Unhandled,
+    NO_CLOCKS,
 };
 
 const NOW: u64 = 1_000_000;
@@ -95,7 +96,11 @@ fn a_request_goes_to_its_device_and_back() {
     for (id, level) in [(2, Level::NoAuthNoPriv), (3, Level::AuthPriv)] {
         let message = both.ask(id, level);
         let taken = both.gate.take_client(NOW, b"client", &message);
-        let Ok(ClientTaken::Begins { request: number, pdu }) = taken else {
+        let Ok(ClientTaken::Begins {
+            request: number,
+            pdu,
+        }) = taken
+        else {
             panic!("a request begins");
         };
         assert_eq!(pdu, Pdu::GetRequest as u8);
@@ -115,6 +120,7 @@ fn a_request_goes_to_its_device_and_back() {
             device: 0,
             datagram,
             request,
+            again: false,
         }) = both.next(10 * id)
         else {
             panic!("the device is asked");
@@ -218,10 +224,13 @@ fn a_device_is_given_up() {
     both.learn();
     let message = both.ask(2, Level::AuthPriv);
     both.gate.take_client(NOW, b"client", &message).unwrap();
-    let (mut now, mut asks, mut last) = (NOW, 0, None);
+    let (mut now, mut asks, mut again, mut last) = (NOW, 0, 0, None);
     for n in 0..100 {
         match both.gate.next(now, n, n as u32).unwrap() {
-            Some(Sent::ToDevice { .. }) => asks += 1,
+            Some(Sent::ToDevice { again: is, .. }) => {
+                asks += 1;
+                again += u32::from(is);
+            }
             Some(other) => last = Some(other),
             None => match both.gate.due() {
                 Some(at) => now = at,
@@ -229,8 +238,15 @@ fn a_device_is_given_up() {
             },
         }
     }
-    assert_eq!(asks, 3);
-    assert!(matches!(last, Some(Sent::Unanswered { why: None, .. })));
+    assert_eq!((asks, again), (3, 2));
+    assert!(matches!(
+        last,
+        Some(Sent::Unanswered {
+            why: None,
+            ended: Ended::InSilence,
+            ..
+        })
+    ));
     assert_eq!(both.gate.waiting(), Ok(0));
 }
 
@@ -255,10 +271,17 @@ fn another_context_is_reported() {
     both.manager.request(NOW / 1000, &of, 2).unwrap();
     let message = both.manager.message().unwrap();
     both.gate.take_client(NOW, b"client", &message).unwrap();
-    let Some(Sent::ToClient { datagram, says, .. }) = both.next(1) else {
+    let Some(Sent::ToClient {
+        datagram,
+        says,
+        ended,
+        ..
+    }) = both.next(1)
+    else {
         panic!("it is reported");
     };
     assert_eq!(says, None);
+    assert_eq!(ended, Ended::Unhandled(Unhandled::UnknownContexts));
     both.manager.take(NOW / 1000, &datagram).unwrap();
     assert_eq!(both.manager.report().unwrap().counter, Some(9));
     assert_eq!(both.gate.counts().unwrap().unknown_contexts, 1);

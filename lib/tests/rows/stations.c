@@ -493,7 +493,7 @@ static void respond_kept(uint64_t now, snmpsec_octets list) {
  * for no octet more, and one with a binding fewer, or none, if there is an octet less. */
 static bool has_front(uint64_t now, snmpsec_octets list, size_t count, size_t len) {
     snmpsec_octets whole, front;
-    size_t found = count + 1, fewer;
+    size_t found = count + 1, counted, fewer;
     need(snmpsec_agent_respond(agent, now, 0, 0, list.at, len, agent_salt));
     agent_message(&whole);
     uint8_t *at = memcpy(kept(whole.len), whole.at, whole.len);
@@ -501,9 +501,14 @@ static bool has_front(uint64_t now, snmpsec_octets list, size_t count, size_t le
     need(snmpsec_agent_respond_front(agent, now, 0, 0, list.at, list.len, agent_salt, (uint32_t)whole.len, &found));
     agent_message(&front);
     if (found != count || !is_same(whole, front)) return false;
+    need(snmpsec_agent_fits(agent, now, 0, 0, list.at, list.len, (uint32_t)whole.len, &counted));
+    if (counted != count) return false;
+    counted = list.len;
+    int fits = snmpsec_agent_fits(agent, now, 0, 0, list.at, list.len, (uint32_t)whole.len - 1, &counted);
     int answer = snmpsec_agent_respond_front(agent, now, 0, 0, list.at, list.len, agent_salt, (uint32_t)whole.len - 1,
                                              &fewer);
     if (answer && answer != SNMPSEC_TOO_LARGE) fail_of(answer);
+    if (fits != answer || (!fits && counted != fewer)) return false;
     return count ? !answer && fewer == count - 1 : answer == SNMPSEC_TOO_LARGE;
 }
 

@@ -43,12 +43,13 @@ import threading
 from enum import IntEnum
 from typing import Any, Callable, Iterator, List, NamedTuple, Optional, Sequence, Tuple, TypeVar, Union
 
-from . import _library
-from ._library import CALLS, Octets as _Slice
+from . import _calls
+from ._calls import Octets as _Slice
+from ._library import CALLS
 
 __version__ = "0.1.0"
 __all__ = ["Access", "Agent", "Answered", "AuthProtocol", "BadArgument", "BadBindings", "BadClocks", "BadConfiguration", "Binding", "Clock", "ConfigFault",
-           "ConfigKey", "ConfigReason", "ConfigTable", "Counters", "Counts", "Device", "Error", "ForwardEvent", "Forwarded", "Forwarder", "Gate", "GateAnswer",
+           "ConfigKey", "ConfigReason", "ConfigTable", "Counters", "Counts", "Device", "Ended", "Error", "ForwardEvent", "Forwarded", "Forwarder", "Gate", "GateAnswer",
            "GateDevice", "GateEvent", "GateReceiver", "GateSent", "Info", "InformMessage", "Kept", "Known", "LARGEST", "Level", "Manager", "Misfit", "NO_CLOCKS",
            "NotAsked", "NothingTaken", "Part", "Pdu", "ReceiverTaken", "Refusal", "Refused", "Reply", "Report", "Status", "Step", "TooManyRequests", "TrapTaken",
            "Unhandled", "View", "binding", "bindings", "config_fault", "datagram_user", "gate_fault", "localise", "mac", "open_text",
@@ -452,7 +453,7 @@ def _copied(call: Callable[..., Any], *arguments: Any, room: int = _ROOM) -> byt
 
 def config_fault(config: Buffer) -> Optional[ConfigFault]:
     """Why a text is refused as a configuration, or None where it isn't."""
-    place, written, room = _library.ConfigPlace(), ctypes.c_size_t(), 4096
+    place, written, room = _calls.ConfigPlace(), ctypes.c_size_t(), 4096
     while True:
         out = ctypes.create_string_buffer(room)
         answer = CALLS["config_fault"](*_octets(config), ctypes.byref(place), out, room, ctypes.byref(written))
@@ -474,7 +475,7 @@ def binding(name: Sequence[int], tag: int, content: Buffer = b"") -> bytes:
 def scoped_pdu(pdu: Pdu, octets: Buffer, *, request_id: int, error_status: int = 0, error_index: int = 0, context_engine: Buffer = b"",
                context_name: Buffer = b"") -> bytes:
     """A scopedPDU of these bindings, as octets: what `Manager.seal` seals. Its numbers have 32 bits with sign, so that they may be negative."""
-    said = _library.Scoped(pdu, _signed(request_id), _signed(error_status), _signed(error_index), _slice(context_engine), _slice(context_name),
+    said = _calls.Scoped(pdu, _signed(request_id), _signed(error_status), _signed(error_index), _slice(context_engine), _slice(context_name),
                            _slice(octets))
     return _copied(CALLS["scoped_write"], ctypes.byref(said))
 
@@ -485,7 +486,7 @@ def bindings(octets: Buffer) -> list[Binding]:
 
 
 def _bindings(octets: bytes) -> Iterator[Binding]:
-    at, one = ctypes.c_size_t(), _library.BindingRead()
+    at, one = ctypes.c_size_t(), _calls.BindingRead()
     base = ctypes.c_char_p(octets)
     begin = ctypes.cast(base, ctypes.c_void_p).value or 0
     while at.value < len(octets):
@@ -501,7 +502,7 @@ def value_is(tag: int, content: Buffer) -> bool:
 
 def status_of(access: Access, pdu: Pdu) -> Status:
     """What becomes of a variable, by the answer on access and the PDU that asks (RFC 3413, section 3.2)."""
-    out = _library.Enumeration()
+    out = _calls.Enumeration()
     _done(CALLS["status_of"](access, pdu, ctypes.byref(out)))
     return Status(out.value)
 
@@ -612,12 +613,12 @@ class _Counting(_Handled):
     """What an agent and a gateway count."""
 
     def counters(self) -> Counters:
-        out = _library.Counters()
+        out = _calls.Counters()
         _done(self._call("counters", ctypes.byref(out)))
         return Counters(*(getattr(out, name) for name, _ in out._fields_))
 
     def counts(self) -> Counts:
-        out = _library.Counts()
+        out = _calls.Counts()
         _done(self._call("counts", ctypes.byref(out)))
         return Counts(*(getattr(out, name) for name, _ in out._fields_))
 
@@ -626,7 +627,7 @@ class _Keeping(_Object):
     """What is said of a message that was accepted; NothingTaken where there is none."""
 
     def _info(self) -> Info:
-        out = _library.Info()
+        out = _calls.Info()
         _done(self._call("info", ctypes.byref(out)))
         return Info(Level(out.level), out.pdu, out.request_id, out.error_status, out.error_index, out.message_id)
 
@@ -634,7 +635,7 @@ class _Keeping(_Object):
         return _copied(self._call, "part", part)
 
     def _max_size(self) -> int:
-        out = _library.Written()
+        out = _calls.Written()
         _done(self._call("max_size", ctypes.byref(out)))
         return out.value
 
@@ -684,7 +685,7 @@ class Agent(_Held, _Counting):
 
     def access(self, view: View, name: Sequence[int]) -> Access:
         """Whether the sender of what is kept may see the variable, or why not."""
-        out = _library.Enumeration()
+        out = _calls.Enumeration()
         _done(self._call("access", view, *_arcs(name), ctypes.byref(out)))
         return Access(out.value)
 
@@ -695,13 +696,13 @@ class Agent(_Held, _Counting):
         """The least name, at or after this one, that the sender of what is kept may see (RFC 3416, section 4.2.2), or None.
 
         An agent that walks goes on there, and steps over no variable that is hidden."""
-        out, written = (_library.Written * _MOST_ARCS)(), ctypes.c_size_t()
+        out, written = (_calls.Written * _MOST_ARCS)(), ctypes.c_size_t()
         _done(self._call("next", view, *_arcs(name), out, _MOST_ARCS, ctypes.byref(written)))
         return tuple(it.value for it in out[: written.value]) or None
 
     def user_access(self, user: Buffer, level: Level, context: Buffer, view: View, name: Sequence[int]) -> Access:
         """What `access` returns, for a user at a level in a context."""
-        out = _library.Enumeration()
+        out = _calls.Enumeration()
         _done(self._call("user_access", _slice(user), level, _slice(context), view, *_arcs(name), ctypes.byref(out)))
         return Access(out.value)
 
@@ -722,9 +723,16 @@ class Agent(_Held, _Counting):
                          _ranged(limit), ctypes.byref(count)))
         return count.value
 
+    def fits(self, now: int, octets: Buffer, limit: int, error_status: int = 0, error_index: int = 0) -> int:
+        """How many of the bindings, from the first on, have room in that Response, as `respond_front` would say. Nothing is sealed or written."""
+        count = ctypes.c_size_t()
+        _done(self._call("fits", _ranged(now, 64), _ranged(error_status), _ranged(error_index), *_octets(octets), _ranged(limit),
+                         ctypes.byref(count)))
+        return count.value
+
     def unhandled(self) -> Optional[Unhandled]:
         """Why nothing answers what is kept, or None where it is to be answered (RFC 3412, section 4.2.2; RFC 3413, section 3.2)."""
-        out = _library.Enumeration()
+        out = _calls.Enumeration()
         _done(self._call("unhandled", ctypes.byref(out)))
         why = Unhandled(out.value)
         return None if why == Unhandled.HANDLED else why
@@ -739,7 +747,7 @@ class Agent(_Held, _Counting):
 
     def keep(self) -> "Kept":
         """Takes what is kept out of the agent, which keeps no message then, until the next take. The message that is to be sent stays."""
-        out = _library.Other()
+        out = _calls.Other()
         _done(self._call("keep", ctypes.byref(out)))
         return Kept(ctypes.c_void_p(out.value))
 
@@ -747,13 +755,13 @@ class Agent(_Held, _Counting):
         """Puts it back, and closes it: the agent keeps it, instead of what it kept, as if it had been accepted last. So access, next, unhandled and
         refuse are asked of a message that waited."""
         with self._lent() as agent, kept._lent() as other:
-            _done(CALLS["agent_restore"](agent, _library.Other(other.value)))
+            _done(CALLS["agent_restore"](agent, _calls.Other(other.value)))
             kept._handle = None
 
     def notify(self, now: int, *, user: Buffer, level: Level, octets: Buffer, salt: int, message_id: int, request_id: int,
                context_engine: Buffer, context_name: Buffer = b"") -> None:
         """Writes an SNMPv2-Trap, as the message."""
-        notice = _library.Notice(_ranged(message_id), _ranged(request_id), level, _slice(user), _slice(context_engine), _slice(context_name),
+        notice = _calls.Notice(_ranged(message_id), _ranged(request_id), level, _slice(user), _slice(context_engine), _slice(context_name),
                                  _slice(octets), _ranged(salt, 64))
         _done(self._call("notify", _ranged(now, 64), ctypes.byref(notice)))
 
@@ -793,7 +801,7 @@ class Kept(_Keeping):
 
     def _answer(self, name: str, agent: Agent, now: int, octets: Buffer, salt: int, error_status: int, error_index: int, *more: Any) -> None:
         with agent._lent() as other:
-            _done(self._call(name, _library.Other(other.value), _ranged(now, 64), _ranged(error_status), _ranged(error_index), *_octets(octets),
+            _done(self._call(name, _calls.Other(other.value), _ranged(now, 64), _ranged(error_status), _ranged(error_index), *_octets(octets),
                              _ranged(salt, 64), *more))
 
 
@@ -802,15 +810,15 @@ class Device:
     `counter` the counter of the last Report that says why the request is refused or, where it isn't authentic, is likely to have no answer."""
 
     def __init__(self, level: Level, known: Known = Known.NOTHING):
-        self._device, step = _library.Device(), _library.Enumeration()
+        self._device, step = _calls.Device(), _calls.Enumeration()
         _done(CALLS["device_begin"](ctypes.byref(self._device), level, known, ctypes.byref(step)))
         self.step = Step(step.value)
 
     def hear(self, answered: Answered, holds_clock: bool) -> Step:
         """What is to be done once a message answered what was sent last. The request is sent again once, after an authentic Report that it was
         outside of the time window, and never at another level. A Report that isn't authentic ends nothing."""
-        heard = _library.Heard(0 if answered.is_response else 2, answered.report_of or 0, answered.is_authentic, answered.token)
-        step = _library.Enumeration()
+        heard = _calls.AnsweredRead(0 if answered.is_response else 2, answered.report_of or 0, answered.is_authentic, answered.token)
+        step = _calls.Enumeration()
         _done(CALLS["device_hear"](ctypes.byref(self._device), ctypes.byref(heard), holds_clock, ctypes.byref(step)))
         self.step = Step(step.value)
         return self.step
@@ -847,7 +855,7 @@ class Manager(_Held):
 
     def report(self) -> Optional[Report]:
         """What is kept tells, where it is a Report on the request that was written last."""
-        out = _library.Report()
+        out = _calls.Report()
         try:
             _done(self._call("report", ctypes.byref(out)))
         except NothingTaken:
@@ -855,7 +863,7 @@ class Manager(_Held):
         return Report(out.counter, out.value if out.has_value else None, out.is_authenticated)
 
     def _reply(self, call: str) -> Optional[Reply]:
-        out = _library.Reply()
+        out = _calls.Reply()
         try:
             _done(self._call(call, ctypes.byref(out)))
         except NothingTaken:
@@ -870,7 +878,7 @@ class Manager(_Held):
                 request_id: Optional[int] = None, error_status: int = 0, error_index: int = 0, context_engine: Optional[Buffer] = None,
                 context_name: Buffer = b"") -> None:
         """Writes a request, as the message. One is waited for at a time; `ask` has many."""
-        asked = _library.Request(pdu, _ranged(message_id), _ranged(message_id if request_id is None else request_id), _ranged(error_status),
+        asked = _calls.Request(pdu, _ranged(message_id), _ranged(message_id if request_id is None else request_id), _ranged(error_status),
                                  _ranged(error_index), level, _slice(engine), _slice(user),
                                  _slice(engine if context_engine is None else context_engine), _slice(context_name), _slice(octets), _ranged(salt, 64))
         _done(self._call("request", _ranged(now, 64), ctypes.byref(asked)))
@@ -878,7 +886,7 @@ class Manager(_Held):
     def seal(self, scoped: Buffer, *, engine: Buffer, boots: int, time: int, user: Buffer, level: Level, salt: int, message_id: int,
              max_size: int = LARGEST, is_reportable: bool = True) -> None:
         """Seals a scopedPDU under any header, as the message, for programs that test agents. No answer to it is waited for, and the clocks stay."""
-        sealing = _library.Sealing(_ranged(message_id), _ranged(max_size), is_reportable, level, _slice(engine), _slice(user), _ranged(boots),
+        sealing = _calls.Sealing(_ranged(message_id), _ranged(max_size), is_reportable, level, _slice(engine), _slice(user), _ranged(boots),
                                    _ranged(time), _slice(scoped), _ranged(salt, 64))
         _done(self._call("seal", ctypes.byref(sealing)))
 
@@ -888,7 +896,7 @@ class Manager(_Held):
         """Writes a request, as the message, that waits for its answer beside all others that were asked, and returns its token.
 
         The first request of all has `message_id`, which is to be random; each later one has the next that none has that waits."""
-        asked = _library.Request(pdu, _ranged(message_id), _ranged(request_id), _ranged(error_status), _ranged(error_index), level, _slice(engine),
+        asked = _calls.Request(pdu, _ranged(message_id), _ranged(request_id), _ranged(error_status), _ranged(error_index), level, _slice(engine),
                                  _slice(user), _slice(engine if context_engine is None else context_engine), _slice(context_name), _slice(octets),
                                  _ranged(salt, 64))
         token = ctypes.c_uint64()
@@ -903,7 +911,7 @@ class Manager(_Held):
 
     def answered(self) -> Optional[Answered]:
         """Which request that was asked the message answers that is kept, or None. A Response ends its request, and is reported once."""
-        out = _library.Answered()
+        out = _calls.Answered()
         try:
             _done(self._call("answered", ctypes.byref(out)))
         except NothingTaken:
@@ -928,7 +936,7 @@ class Manager(_Held):
 
     def clock(self, engine: Buffer) -> Optional[Clock]:
         """The boots and time that are held of an engine, or None."""
-        out = _library.Clock()
+        out = _calls.Clock()
         try:
             _done(self._call("clock", *_octets(engine), ctypes.byref(out)))
         except NothingTaken:
@@ -936,5 +944,5 @@ class Manager(_Held):
         return Clock(out.boots, out.time)
 
 
-from .gate import Gate, GateAnswer, GateDevice, GateEvent, GateReceiver, GateSent, Misfit, datagram_user, gate_fault  # noqa: E402  (it needs what stands above)
+from .gate import Ended, Gate, GateAnswer, GateDevice, GateEvent, GateReceiver, GateSent, Misfit, datagram_user, gate_fault  # noqa: E402  (it needs what stands above)
 from .forward import ForwardEvent, Forwarded, Forwarder, InformMessage, ReceiverTaken, TrapTaken  # noqa: E402

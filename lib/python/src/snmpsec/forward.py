@@ -15,7 +15,7 @@ import ctypes
 from enum import IntEnum
 from typing import NamedTuple, Optional, Union
 
-from . import BadConfiguration, Buffer, NothingTaken, Path, Refusal, _done, _Handled, _library, _octets, _ranged, _refusal, wiped
+from . import BadConfiguration, Buffer, NothingTaken, Path, Refusal, _done, _Handled, _calls, _octets, _ranged, _refusal, wiped
 from .gate import gate_fault
 
 __all__ = ["ForwardEvent", "Forwarded", "Forwarder", "InformMessage", "ReceiverTaken", "TrapTaken"]
@@ -111,14 +111,14 @@ class Forwarder(_Handled):
 
     def take_trap(self, device: int, datagram: Buffer) -> TrapTaken:
         """Takes a datagram of the device at this position, from 0. That it came from this device rests on the caller."""
-        number = _library.Enumeration()
+        number = _calls.Enumeration()
         _done(self._call("take_trap", _ranged(device, 64), *_octets(datagram), ctypes.byref(number)))
         event = ForwardEvent(number.value)
         return TrapTaken(event, self._numbers().notification if event is ForwardEvent.WAITS else None)
 
     def take_receiver(self, now: int, receiver: int, datagram: Buffer) -> Union[ReceiverTaken, Refusal]:
         """Takes a datagram of the receiver at this position, from 0."""
-        number = _library.Enumeration()
+        number = _calls.Enumeration()
         answer = self._call("take_receiver", _ranged(now, 64), _ranged(receiver, 64), *_octets(datagram), ctypes.byref(number))
         refusal = _refusal(answer)
         if refusal is not None:
@@ -128,7 +128,7 @@ class Forwarder(_Handled):
 
     def next(self, now: int, salt: int, ask_id: int) -> Optional[Forwarded]:
         """Does the first thing that is due, or None. It is called until then, each time with another salt and ask_id."""
-        number, why = _library.Enumeration(), ctypes.c_int()
+        number, why = _calls.Enumeration(), ctypes.c_int()
         _done(self._call("next", _ranged(now, 64), _ranged(salt, 64), _ranged(ask_id), ctypes.byref(number), ctypes.byref(why)))
         if not number.value:
             return None
@@ -154,7 +154,7 @@ class Forwarder(_Handled):
         """How many Informs wait to be acknowledged."""
         return int(self._numbers().informs)
 
-    def _numbers(self) -> _library.ForwardInfo:
-        out = _library.ForwardInfo()
+    def _numbers(self) -> _calls.ForwardInfo:
+        out = _calls.ForwardInfo()
         _done(self._call("numbers", ctypes.byref(out)))
         return out

@@ -15,11 +15,11 @@ import ctypes
 from enum import IntEnum
 from typing import List, NamedTuple, Optional, Sequence, Union
 
-from . import (Access, BadConfiguration, Buffer, NothingTaken, Path, Pdu, Refusal, Refused, _arcs, _copied, _Counting, _done, _library, _Object,
+from . import (Access, BadConfiguration, Buffer, NothingTaken, Path, Pdu, Refusal, Refused, Unhandled, _arcs, _copied, _Counting, _done, _calls, _Object,
                _octets, _ranged, _refusal, wiped)
 from ._library import CALLS
 
-__all__ = ["Gate", "GateAnswer", "GateDevice", "GateEvent", "GateReceiver", "GateSent", "Misfit", "datagram_user", "gate_fault"]
+__all__ = ["Ended", "Gate", "GateAnswer", "GateDevice", "GateEvent", "GateReceiver", "GateSent", "Misfit", "datagram_user", "gate_fault"]
 
 _BAD_CONFIGURATION = -6
 _LINES = 4096  # octets
@@ -58,6 +58,19 @@ class Misfit(IntEnum):
     AFTER_END = 6
 
 
+class Ended(IntEnum):
+    """How a request ended of which a message is answered, or isn't."""
+
+    #: By what its device answered, or an error of the gateway's own; by what its datagram was told before, a Set that came again; its device was asked as often
+    #: as it may be for one request.
+    BY_ANSWER = 1
+    REPEATED = 2
+    ROUNDS_USED_UP = 3
+    #: No application answers it; it was given up, and nothing is said of it.
+    UNHANDLED = 4
+    IN_SILENCE = 5
+
+
 class GateAnswer(NamedTuple):
     """A device's answer to what it was asked for a request: why it doesn't fit, if it has no error and doesn't, and the number of its binding from 1, or
     None; and how many of its bindings are hidden from the request's user, whose read view doesn't have their names: 0 for an answer to a Set."""
@@ -70,7 +83,8 @@ class GateAnswer(NamedTuple):
 
 class GateSent(NamedTuple):
     """What `next` did, for a request. TO_CLIENT has the client and the datagram, and error-status and error-index of the Response, or None where it is a
-    Report; TO_DEVICE the device's position and the datagram, GIVEN_UP the device, and UNANSWERED why, if there is a refusal."""
+    Report; TO_DEVICE the device's position and the datagram, and whether it is asked the same again; GIVEN_UP the device, and UNANSWERED why, if there is a
+    refusal. TO_CLIENT and UNANSWERED tell how the request ended, and why no application answers it, if none does."""
 
     event: GateEvent
     request: int
@@ -80,6 +94,9 @@ class GateSent(NamedTuple):
     why: Optional[Refusal]
     error_status: Optional[int]
     error_index: Optional[int]
+    ended: Optional[Ended] = None
+    unhandled: Optional[Unhandled] = None
+    again: bool = False
 
 
 class GateDevice(NamedTuple):
@@ -164,7 +181,7 @@ class Gate(_Counting):
     def take_client(self, now: int, client: Buffer, datagram: Buffer) -> Union[GateEvent, Refusal]:
         """Takes a client's datagram; its address is any octets that tell it from others. Of what is refused the report is the message, if there is
         one."""
-        event = _library.Enumeration()
+        event = _calls.Enumeration()
         answer = self._call("take_client", _ranged(now, 64), *_octets(client, datagram), ctypes.byref(event))
         return _refusal(answer) or GateEvent(event.value)
 
@@ -178,7 +195,7 @@ class Gate(_Counting):
 
     def take_device(self, now: int, device: int, datagram: Buffer) -> GateEvent:
         """Takes a datagram of the device at this position, from 0."""
-        event = _library.Enumeration()
+        event = _calls.Enumeration()
         _done(self._call("take_device", _ranged(now, 64), _ranged(device, 64), *_octets(datagram), ctypes.byref(event)))
         return GateEvent(event.value)
 
@@ -189,7 +206,7 @@ class Gate(_Counting):
 
     def next(self, now: int, salt: int, ask_id: int) -> Optional[GateSent]:
         """Does the first thing that is due, or None. It is called until then, each time with another salt and ask_id."""
-        number, why = _library.Enumeration(), ctypes.c_int()
+        number, why = _calls.Enumeration(), ctypes.c_int()
         _done(self._call("next", _ranged(now, 64), _ranged(salt, 64), _ranged(ask_id), ctypes.byref(number), ctypes.byref(why)))
         if not number.value:
             return None
@@ -197,7 +214,8 @@ class Gate(_Counting):
         device = info.device if event in (GateEvent.TO_DEVICE, GateEvent.GIVEN_UP) else None
         client = _copied(self._call, "client") if event is GateEvent.TO_CLIENT else None
         status, index = (info.status, info.index) if client is not None and not info.is_report else (None, None)
-        return GateSent(event, info.request, device, client, self.message(), Refusal(why.value) if why.value else None, status, index)
+        return GateSent(event, info.request, device, client, self.message(), Refusal(why.value) if why.value else None, status, index,
+                        Ended(info.ended) if info.ended else None, Unhandled(info.unhandled) if info.unhandled else None, bool(info.again))
 
     def due(self) -> Optional[int]:
         """The moment from which on `next` has something to do by time alone, or None."""
@@ -212,8 +230,8 @@ class Gate(_Counting):
         """How many requests wait."""
         return int(self._numbers().waiting)
 
-    def _numbers(self) -> _library.GateInfo:
-        out = _library.GateInfo()
+    def _numbers(self) -> _calls.GateInfo:
+        out = _calls.GateInfo()
         _done(self._call("numbers", ctypes.byref(out)))
         return out
 
@@ -254,7 +272,7 @@ class Gate(_Counting):
 
     def may_notify(self, receiver: int, device: int, name: Sequence[int]) -> Access:
         """Whether the receiver may be notified of the variable of this name in the device's context (RFC 3415, section 3)."""
-        answer = _library.Enumeration()
+        answer = _calls.Enumeration()
         _done(self._call("may_notify", _ranged(receiver, 64), _ranged(device, 64), *_arcs(name), ctypes.byref(answer)))
         return Access(answer.value)
 

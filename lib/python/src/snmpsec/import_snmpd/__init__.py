@@ -7,7 +7,7 @@ It needs Python's standard library alone, and neither the rest of the package no
 by python3. With the library there, `python3 -m snmpsec.import_snmpd` is the same.
 
 words       how lines are cut, and what single words stand for
-lines       what a line is: nothing, a section, or a directive with the text behind it
+lines       what a line is: nothing, a section, or a directive with the text after it
 rows        the rows of `group`, `access`, `setaccess`, `authaccess` and `view`
 users       the users of `createUser`
 simple      `rouser` and its like, and the lines that snmpd makes of them

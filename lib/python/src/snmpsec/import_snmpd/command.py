@@ -71,7 +71,7 @@ def words_of(given: List[bytes]) -> Optional[Words]:
 
 
 def _contexts(names: List[bytes]) -> List[bytes]:
-    """The contexts of these names, each once, behind the one without a name."""
+    """The contexts of these names, each once, after the one without a name."""
     if any(len(name) > NAME_MOST for name in names):
         raise Complaint(b"bad word NAME")
     return list(dict.fromkeys([b"", *names]))

@@ -93,7 +93,7 @@ class Sources:
         self.items: List[Item] = []
 
     def put(self, name: bytes, text: bytes) -> List[Item]:
-        """Puts a file behind those that are there. Returns what its lines make."""
+        """Puts a file after those that are there. Returns what its lines make."""
         self.names.append(name)
         return list(read_items(len(self.names) - 1, text))
 

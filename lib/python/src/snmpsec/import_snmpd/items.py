@@ -43,7 +43,7 @@ _MAPPINGS = (b"com2sec", b"com2sec6", b"com2secunix")
 _SAVED = (b"usmuser", b"vacmview", b"vacmgroup", b"vacmaccess", b"vacmauthaccess")
 _INCLUDES = (b"include", b"includesearch", b"includefile", b"includedir")
 
-_BARE = Note(REFUSED, "nothing behind it")
+_BARE = Note(REFUSED, "nothing after it")
 _ELSE = Note(OTHER, "")
 _NOT_TEXT = Note(LEFT_OUT, "a name isn't UTF-8")
 _MAPPING = Note(LEFT_OUT, "a community's name here is that of a group row of model 1 or 2")

@@ -1,4 +1,4 @@
-"""What a line of snmpd.conf is: nothing, the beginning of a section, or a directive with the text behind it."""
+"""What a line of snmpd.conf is: nothing, the beginning of a section, or a directive with the text after it."""
 from __future__ import annotations
 
 from typing import NamedTuple, Optional, Union
@@ -23,6 +23,7 @@ class Note(NamedTuple):
 
     kind: str
     why: str
+    user: Optional[bytes] = None  # whom the line would make
 
 
 class Begins(NamedTuple):
@@ -42,9 +43,9 @@ class Directive(NamedTuple):
 class Fault(Exception):
     """Why a line makes no row."""
 
-    def __init__(self, kind: str, why: str) -> None:
+    def __init__(self, kind: str, why: str, user: Optional[bytes] = None) -> None:
         super().__init__(why)
-        self.note = Note(kind, why)
+        self.note = Note(kind, why, user)
 
 
 def refused(why: str) -> Fault:
@@ -69,9 +70,9 @@ def read_line(text: bytes, section: bytes) -> Line:
     rest = go_on(text.partition(b"\0")[0])
     if rest is None:
         return None
-    word, behind = take_word(rest, _DIRECTIVE_MOST)
+    word, after = take_word(rest, _DIRECTIVE_MOST)
     if not word.startswith(b"["):
-        return Directive(section, word, behind)
+        return Directive(section, word, after)
     if len(word) < 2 or not word.endswith(b"]"):
         return _UNCLOSED
-    return _section_line(word[1:-1], behind)
+    return _section_line(word[1:-1], after)

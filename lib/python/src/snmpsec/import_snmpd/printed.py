@@ -67,6 +67,14 @@ def _family(held: HeldFamily) -> Keys:
     return keys + ([("mask", f'"{row.mask.hex()}"')] if row.mask else [])
 
 
+def _left_out(names: List[bytes], kept: Kept) -> bytes:
+    """A comment on each user that isn't one of the configuration."""
+    return b"".join(
+        b"# %b: user %b is left out: %b\n" % (place_text(names, it.place), quoted(it.name).encode(), it.why.encode())
+        for it in kept.left_out
+    )
+
+
 def _blocks(names: List[bytes], kept: Kept) -> Iterator[Tuple[bytes, str, Keys]]:
     """The comment, the table and the keys of each row. `none` isn't a view where no view has that name."""
     has_none = any(held.row.view == b"none" for held in kept.families)
@@ -84,8 +92,9 @@ def _blocks(names: List[bytes], kept: Kept) -> Iterator[Tuple[bytes, str, Keys]]
 
 def configuration(names: List[bytes], kept: Kept) -> bytes:
     """The text of a configuration, given the names of the files that its rows are from."""
-    blocks = (
+    blocks = [
         b"# %b\n" % comment + f"[[{table}]]\n".encode() + "".join(f"{key} = {value}\n" for key, value in keys).encode()
         for comment, table, keys in _blocks(names, kept)
-    )
-    return b"\n".join(blocks)
+    ]
+    left_out = _left_out(names, kept)
+    return b"\n".join([left_out] * bool(left_out) + blocks)

@@ -58,7 +58,7 @@ class AccessRow(NamedTuple):
 
 
 class FamilyRow(NamedTuple):
-    """A row of vacmViewTreeFamilyTable. In the mask of its line three hex digits may stand one behind another."""
+    """A row of vacmViewTreeFamilyTable. In the mask of its line three hex digits may follow one another."""
 
     view: bytes
     subtree: Tuple[int, ...]
@@ -173,7 +173,7 @@ def take_types(text: bytes) -> Tuple[Types, bytes]:
 
 
 def _group_and_view(text: bytes) -> Tuple[bytes, int, bytes, bytes]:
-    """The group, the model behind `-s` or else any, the view, and what follows."""
+    """The group, the model after `-s` or else any, the view, and what follows."""
     tokens, rest = take_tokens(text, 2)
     if len(tokens) < 2:
         raise refused("missing a word")
@@ -205,7 +205,7 @@ def auth_access(text: bytes) -> Setting:
 
 
 def _arc_of(text: bytes) -> Optional[int]:
-    """The number that a text writes, octal behind a 0, and hex behind 0x; 2^32 for one that is too large for an arc."""
+    """The number that a text writes, octal after a 0, and hex after 0x; 2^32 for one that is too large for an arc."""
     found = _NUMBER.fullmatch(text)
     if found is None:
         return None
@@ -234,7 +234,7 @@ def _mask_octet(token: bytes) -> int:
 
 
 def _mask_octets(text: bytes) -> bytes:
-    """The octets that a text writes, cut at spaces, dots and colons: of each token the hex digits in front."""
+    """The octets that a text writes, cut at spaces, dots and colons: of each token the hex digits that it begins with."""
     tokens = [it for it in re.split(rb"[ .:]+", text.lstrip(b" .:"), maxsplit=_MASK_ROOM + 1) if it]
     octets = bytes(_mask_octet(token) for token in tokens[:_MASK_ROOM])
     if len(tokens) > _MASK_ROOM:

@@ -74,10 +74,10 @@ def _take_view(text: Optional[bytes]) -> Tuple[Optional[bytes], bytes, Optional[
     if not text.startswith(b"-V "):
         oid, rest = take_word(text, _WORD_MOST)
         return oid, b"", rest
-    behind = go_on(text[3:])
-    if behind is None:
+    after = go_on(text[3:])
+    if after is None:
         raise Fault(UNDEFINED, "a word is missing")
-    view, rest = take_word(behind, _WORD_MOST)
+    view, rest = take_word(after, _WORD_MOST)
     return None, view, rest
 
 
@@ -85,9 +85,9 @@ def simple_line(kind: str, given: Optional[Types], text: bytes) -> Simple:
     """What a simple line says, given what follows its directive, and the types of views where the directive gives them.
     """
     types, rest = (given, text) if given is not None else take_types(text)
-    name, model, level, behind = _take_named(kind, rest)
-    oid, view, behind = _take_view(behind)
-    context, is_prefix = (b"", True) if behind is None else contexts_of(take_word(behind, _WORD_MOST)[0])
+    name, model, level, after = _take_named(kind, rest)
+    oid, view, after = _take_view(after)
+    context, is_prefix = (b"", True) if after is None else contexts_of(take_word(after, _WORD_MOST)[0])
     return Simple(kind, types, name, model, level, oid, view, context, is_prefix)
 
 
@@ -103,14 +103,14 @@ def _groups(simple: Simple, number: int, group: bytes) -> Iterator[MadeLine]:
 def _rights(simple: Simple, group: bytes, view: bytes) -> Iterator[MadeLine]:
     types = simple.types.words
     match = b"prefix" if simple.is_prefix else b"exact"
-    front = b" ".join((group, simple.context or b'""', simple.model, simple.level, match))
+    row = b" ".join((group, simple.context or b'""', simple.model, simple.level, match))
     if b"read" in types and types <= _READ_WRITE.words:
         other = view if b"write" in types else b"none"
-        yield b"access", b" ".join((front, view, other, other))
+        yield b"access", b" ".join((row, view, other, other))
         return
     for word in VIEW_WORDS:
         if word in types:
-            yield b"setaccess", b" ".join((front, word, view))
+            yield b"setaccess", b" ".join((row, word, view))
 
 
 def lines_of(simple: Simple, number: int) -> Iterator[MadeLine]:

@@ -22,7 +22,7 @@ _LEVELS = {
 _GAPS = b" \t\n"
 _GAP = re.compile(rb"[ \t\n]")
 _ESCAPED = re.compile(rb"\\(.)", re.S)
-# An octet behind a backslash, or what ends the word. Where the match is one octet long the word ends.
+# An octet after a backslash, or what ends the word. Where the match is one octet long the word ends.
 _ENDS = {
     b"": re.compile(rb"\\.|[\t-\r ]", re.S),
     b'"': re.compile(rb'\\.|"', re.S),
@@ -38,7 +38,7 @@ class Types(NamedTuple):
 
 
 def go_on(text: bytes) -> Optional[bytes]:
-    """What the text goes on with behind its blanks. None: nothing, or a comment."""
+    """What the text goes on with after its blanks. None: nothing, or a comment."""
     rest = text.lstrip(BLANKS)
     return None if not rest or rest.startswith(b"#") else rest
 
@@ -54,7 +54,7 @@ def _end(text: bytes, quote: bytes) -> int:
 def take_word(text: bytes, most: int) -> Tuple[bytes, Optional[bytes]]:
     """The word that the text begins with, of which at most so many octets are held, and what its line goes on with.
 
-    It ends at the next blank, or at the same quote where it begins with one. An octet behind a backslash is as it is.
+    It ends at the next blank, or at the same quote where it begins with one. An octet after a backslash is as it is.
     """
     quote = text[:1] if text[:1] in (b'"', b"'") else b""
     inside = text[len(quote):]
