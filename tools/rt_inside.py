@@ -37,6 +37,7 @@ OF_CRATE = (
     "build_static",
     "call",
     "check",
+    "ci",
     "compile",
     "count",
     "folder",
@@ -48,6 +49,7 @@ OF_CRATE = (
     "makes_rlib",
     "name",
     "of_kit",
+    "prove",
     "rlib",
     "sources_below",
     "stamp",
@@ -114,7 +116,14 @@ class Kit:
         return self.rt.run(crate, True)
 
     def gate(self, words):
-        """Runs the kit's gate with these words; its status."""
+        """Runs the kit's gate with these words; its status. It keeps a static library as it was checked, of which rt
+        ci itself keeps nothing."""
+        proves = self.rt.Crate.ci
+
+        def ci(crate, flags, tests):
+            return check_static(self, crate, flags) if crate.is_static and not tests else proves(crate, flags, tests)
+
+        self.rt.Crate.ci = ci
         return self.rt.main(["ci", *words])
 
     def crates(self, names):
@@ -212,10 +221,43 @@ def built_from(kit, crate):
     return "\n".join([crate.stamp(), *sums])
 
 
+def write(file, text):
+    with open(file, "w", encoding="utf-8") as it:
+        it.write(text)
+
+
 def note_built(crate, built):
     """Notes beside the library from what it was built."""
-    with open(f"{crate.folder}/out/rlib/sources", "w", encoding="utf-8") as it:
-        it.write(built)
+    write(f"{crate.folder}/out/rlib/sources", built)
+
+
+def checked_of(crate):
+    """Where a static library is kept as it was checked."""
+    return f"{crate.folder}/out/checked"
+
+
+def check_static(kit, crate, flags):
+    """Proves a static library as rt ci does, and keeps it as it was checked; the status of the command."""
+    checked = checked_of(crate)
+    os.makedirs(os.path.dirname(checked), exist_ok=True)
+    status = crate.prove(["check", *crate.words(flags, keeps=False), "-o", checked])
+    if not status:
+        write(f"{checked}.sources", built_from(kit, crate))
+    return status
+
+
+def build_static(kit, crate, flags):
+    """Compiles a static library as rt ci has checked it. If rt ci hasn't, or something changed since, it is proved
+    first. Returns the status of the command."""
+    checked = checked_of(crate)
+    if kit.text_of(f"{checked}.sources") != built_from(kit, crate):
+        return crate.build_static(flags)
+    words = crate.words(flags, keeps=False)
+    for flag in {"--logic-built", "--jobs"} & {*words}:
+        at = words.index(flag)
+        words = [*words[:at], *words[at + 2 :]]
+    words += ["--crate-checked", checked, "--toolchain", f"{kit.folder}/toolchain", "--backend", "llvm"]
+    return crate.call(kit.rattle, "build", *words, "-o", f"out/lib{crate.name}.a")
 
 
 def is_noted(kit, crate):

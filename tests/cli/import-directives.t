@@ -122,6 +122,12 @@ These are the names of hashes.
   ! f:10: left out: createUser: no counterpart to its hash, or a key instead of a passphrase
   ! f:11: left out: createUser: no counterpart to its hash, or a key instead of a passphrase
   ! f:12: left out: createUser: no counterpart to its hash, or a key instead of a passphrase
+  # f:5: user "4" is left out: no counterpart to its hash, or a key instead of a passphrase
+  # f:6: user "5" is left out: no counterpart to its hash, or a key instead of a passphrase
+  # f:9: user "8" is left out: no counterpart to its hash, or a key instead of a passphrase
+  # f:10: user "9" is left out: no counterpart to its hash, or a key instead of a passphrase
+  # f:11: user "10" is left out: no counterpart to its hash, or a key instead of a passphrase
+  # f:12: user "11" is left out: no counterpart to its hash, or a key instead of a passphrase
   f:1: user name="0" auth="md5" auth-password="maplesyrup"
   f:2: user name="1" auth="sha1" auth-password="maplesyrup"
   f:3: user name="2" auth="sha1" auth-password="maplesyrup"
@@ -163,6 +169,18 @@ These are the names of ciphers, and two that aren't.
   ! f:12: left out: createUser: no counterpart to its hash, or a key instead of a passphrase
   ! f:13: refused by snmpd: createUser: unknown privProtocol
   ! f:14: refused by snmpd: createUser: unknown privProtocol
+  # f:1: user "0" is left out: no counterpart to its hash, or a key instead of a passphrase
+  # f:2: user "1" is left out: no counterpart to its hash, or a key instead of a passphrase
+  # f:3: user "2" is left out: no counterpart to its hash, or a key instead of a passphrase
+  # f:4: user "3" is left out: no counterpart to its hash, or a key instead of a passphrase
+  # f:5: user "4" is left out: no counterpart to its hash, or a key instead of a passphrase
+  # f:6: user "5" is left out: no counterpart to its hash, or a key instead of a passphrase
+  # f:7: user "6" is left out: no counterpart to its hash, or a key instead of a passphrase
+  # f:8: user "7" is left out: no counterpart to its hash, or a key instead of a passphrase
+  # f:9: user "8" is left out: no counterpart to its hash, or a key instead of a passphrase
+  # f:10: user "9" is left out: no counterpart to its hash, or a key instead of a passphrase
+  # f:11: user "10" is left out: no counterpart to its hash, or a key instead of a passphrase
+  # f:12: user "11" is left out: no counterpart to its hash, or a key instead of a passphrase
   context: context name=""
   $ cat > f <<'END'
   > createUser 0 SHA maplesyrup DES secondsyrup

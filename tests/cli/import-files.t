@@ -50,7 +50,7 @@ Of a word that is no directive's only what could be one is shown: a file may be 
   > END
   $ snmpsec import-snmpd f | rows
   ! f:1: other: includeFile: read in its place
-  ! shadow:1: refused by snmpd: root...: nothing behind it
+  ! shadow:1: refused by snmpd: root...: nothing after it
   ! shadow:2: other: correct-horse-battery-staple-123...
   context: context name=""
 
@@ -69,7 +69,7 @@ Where no line is known there is no configuration. Comments and headings are no l
   $ echo 'GROUP' > group
   $ snmpsec import-snmpd boots group | rows
   ! boots:1: other: engineBoots
-  ! group:1: refused by snmpd: GROUP: nothing behind it
+  ! group:1: refused by snmpd: GROUP: nothing after it
   context: context name=""
 
 The file is read at the place of the line. Its name is relative to the file that names it.

@@ -39,10 +39,10 @@ Only directives of the section `[snmpd]` matter. A section may be on the line of
   $ snmpsec import-snmpd f | rows
   ! f:2: other: rouser
   ! f:3: other: RoUser
-  ! f:4: refused by snmpd: rouser...: nothing behind it
-  ! f:5: refused by snmpd: rouser: nothing behind it
+  ! f:4: refused by snmpd: rouser...: nothing after it
+  ! f:5: refused by snmpd: rouser: nothing after it
   ! f:6: other: rouser
-  ! f:8: refused by snmpd: [snmpd]: nothing behind it
+  ! f:8: refused by snmpd: [snmpd]: nothing after it
   context: context name=""
   f:7: group model=3 name="zoe" group="grpzoe"
   f:7: access group="grpzoe" prefix="" model=3 level="authNoPriv" match="prefix" read="_all_"
@@ -123,7 +123,7 @@ Each line makes a row, or has a note.
   ! f:7: other: defVersion
   ! f:8: other: sysLocation
   ! f:9: refused by snmpd: no such section
-  ! f:11: refused by snmpd: rouser: nothing behind it
+  ! f:11: refused by snmpd: rouser: nothing after it
   ! f:12: refused by snmpd: view: TYPE must be included/excluded?
   ! f:14: other: disk
   context: context name=""

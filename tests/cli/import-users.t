@@ -25,6 +25,10 @@ counterpart here.
   ! f:10: left out: createUser: no counterpart to its hash, or a key instead of a passphrase
   ! f:11: refused by snmpd: createUser: unknown authProtocol
   ! f:12: refused by snmpd: createUser: unknown authProtocol
+  # f:6: user "h4" is left out: no counterpart to its hash, or a key instead of a passphrase
+  # f:7: user "h5" is left out: no counterpart to its hash, or a key instead of a passphrase
+  # f:9: user "h7" is left out: no counterpart to its hash, or a key instead of a passphrase
+  # f:10: user "h8" is left out: no counterpart to its hash, or a key instead of a passphrase
   f:1: user name="a"
   f:3: user name="h1" auth="sha1" auth-password="maplesyrup"
   f:4: user name="h2" auth="sha1" auth-password="maplesyrup"
@@ -73,6 +77,9 @@ SHA-224 makes keys of 28 octets, SHA-384 and SHA-512 of 48 and 64. AES-256 needs
   ! f:3: left out: createUser: no counterpart to its hash, or a key instead of a passphrase
   ! f:4: left out: createUser: no counterpart to its hash, or a key instead of a passphrase
   ! f:5: left out: createUser: no counterpart to its hash, or a key instead of a passphrase
+  # f:3: user "c" is left out: no counterpart to its hash, or a key instead of a passphrase
+  # f:4: user "d" is left out: no counterpart to its hash, or a key instead of a passphrase
+  # f:5: user "e" is left out: no counterpart to its hash, or a key instead of a passphrase
   f:2: user name="b" auth="sha256" auth-password="maplesyrup"
   context: context name=""
 
@@ -154,6 +161,11 @@ SHA-224 makes 28 octets.
   ! f:5: left out: createUser: no counterpart to its hash, or a key instead of a passphrase
   ! f:6: refused by snmpd: createUser: privKey length is less than required by privProtocol
   ! f:7: refused by snmpd: createUser: privKey length is less than required by privProtocol
+  # f:1: user "c0" is left out: no counterpart to its hash, or a key instead of a passphrase
+  # f:2: user "c1" is left out: no counterpart to its hash, or a key instead of a passphrase
+  # f:3: user "c2" is left out: no counterpart to its hash, or a key instead of a passphrase
+  # f:4: user "c3" is left out: no counterpart to its hash, or a key instead of a passphrase
+  # f:5: user "c4" is left out: no counterpart to its hash, or a key instead of a passphrase
   context: context name=""
 
 Without a second passphrase the first one is used twice.
@@ -199,6 +211,7 @@ A quoted passphrase selects no default.
   $ snmpsec import-snmpd f | rows
   ! f:1: left out: createUser: no counterpart to its hash, or a key instead of a passphrase
   ! f:2: left out: createUser: no counterpart to its cipher, or a key instead of a passphrase: the user is without privacy
+  # f:1: user "ann" is left out: no counterpart to its hash, or a key instead of a passphrase
   f:2: user name="bob" auth="md5" auth-password="maplesyrup"
   context: context name=""
 
@@ -210,6 +223,7 @@ A user may have no passphrase. One with a key instead of a passphrase is left ou
   > END
   $ snmpsec import-snmpd f | rows
   ! f:2: left out: createUser: no counterpart to its hash, or a key instead of a passphrase
+  # f:2: user "ann" is left out: no counterpart to its hash, or a key instead of a passphrase
   f:1: user name="-M"
   context: context name=""
 
@@ -242,4 +256,5 @@ A wrong line makes no user.
   ! f:10: refused by snmpd: createUser: privKey length is less than required by privProtocol
   ! f:11: left out: createUser: a user of one engine alone
   ! f:12: refused by snmpd: createUser: could not generate the authentication key from the supplied pass phrase
+  # f:11: user "ann" is left out: a user of one engine alone
   context: context name=""

@@ -108,7 +108,7 @@ A directive needs something after it.
   > 'group   \n' \
   > 'group # all\n'
   $ snmpsec import-snmpd f | rows
-  ! f:1: refused by snmpd: group: nothing behind it
-  ! f:2: refused by snmpd: group: nothing behind it
-  ! f:3: refused by snmpd: group: nothing behind it
+  ! f:1: refused by snmpd: group: nothing after it
+  ! f:2: refused by snmpd: group: nothing after it
+  ! f:3: refused by snmpd: group: nothing after it
   context: context name=""
