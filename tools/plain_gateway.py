@@ -246,6 +246,10 @@ class Column:
         return (self.got[-1][0] if self.got else self.first, END) if self.is_ended else None
 
 
+class NoShare(Exception):
+    """As many requests wait for the device as may."""
+
+
 class Ends(Exception):
     """How a request ends: `what` is columns, front, own (error-status and error-index), a reason of RFC 3412, or
     silent."""
@@ -526,6 +530,8 @@ class Gateway:
         try:
             if not self.asks(now, request, message):
                 return "set of before"
+        except NoShare:
+            return "no room"
         except Ends as ends:
             request.ends = ends
         self.begun += 1
@@ -539,7 +545,7 @@ class Gateway:
         if why or request.device is None:
             raise Ends(why or "UnknownContexts")
         if message.tag == SET:
-            return self.asks_set(now, message)
+            return self.asks_set(now, request, message)
         view = self.tables.view_of(message, False)
         if message.names and isinstance(view, str):
             raise Ends("own", AUTHORIZATION_ERROR, 0)
@@ -547,9 +553,16 @@ class Gateway:
             raise Ends("own", TOO_BIG, 0)
         request.talk = Talk(message, view, self.limits, self.devices[request.device])
         request.talk.go_on()
+        self.share(request)
         return True
 
-    def asks_set(self, now, message):
+    def share(self, request):
+        """Refuses the request if as many wait for its device as may."""
+        others = sum(it.ends is None and it.device == request.device for it in self.requests)
+        if others >= self.limits["waiting_per_device"]:
+            raise NoShare
+
+    def asks_set(self, now, request, message):
         if message.datagram in self.sets:
             says = self.sets[message.datagram][1]
             if says is None:
@@ -571,6 +584,7 @@ class Gateway:
             raise Ends("own", NO_ACCESS, 1)
         if len(self.sets) >= REMEMBERED_SETS:
             raise Ends("own", RESOURCE_UNAVAILABLE, 0)
+        self.share(request)
         self.sets[message.datagram] = now, None
         return True
 

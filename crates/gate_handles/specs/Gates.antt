@@ -111,6 +111,7 @@ device_said said = record {
 abbrev pub limits_said : GateSettings → GateLimits
 limits_said said = record {
   waiting = said.limits.waiting;
+  waiting_per_device = said.limits.waiting_per_device;
   joined = JOINED;
   rounds = said.limits.rounds;
   retries = record { again = said.limits.again; tries = said.limits.tries; last = said.limits.last };

@@ -171,6 +171,7 @@ pub(crate) fn empty_settings(alloc: Global, engine: EngineId) -> GateSettings
         traps: Vec::new(alloc),
         limits: GatewayLimits {
             waiting: 1,
+            waiting_per_device: 1,
             rounds: 1,
             again: 1,
             tries: 1,

@@ -25,6 +25,7 @@ pub(crate) fn limits_of(said: &GateSettings) -> GateLimits
 {
     GateLimits {
         waiting: said.limits.waiting,
+        waiting_per_device: said.limits.waiting_per_device,
         joined: JOINED,
         rounds: said.limits.rounds,
         retries: Retries {

@@ -9,7 +9,7 @@ use Rattle.std.proofs.lemmas.List.Elements.{All-get_or, All-push, All-set}
 use Rattle.snmp_agent.specs.Agent.{AgentState}
 use Rattle.snmp_gate.specs.Asks.{ask_of}
 use Rattle.snmp_gate.specs.Asks.{Ends as AskEnds, Waits as AskWaits}
-use Rattle.snmp_gate.specs.Bounds.{AreBounded, AreTimely, AsksBounded, IsFresh, IsNew, IsTimely, IsTurnOf, IsWithin}
+use Rattle.snmp_gate.specs.Bounds.{AreBounded, AreShared, AreTimely, AsksBounded, IsForNoOther, IsFresh, IsNew, IsShareFull, IsTimely, IsTurnOf, IsWithin}
 use Rattle.snmp_gate.specs.Due.{retries_in}
 use Rattle.snmp_gate.specs.Groups.{Group, IsAnswered, IsJoined, IsWorked, begun, group_of, groups_of, with_work}
 use Rattle.snmp_gate.specs.GroupRuns.{IsFew}
@@ -34,6 +34,7 @@ use Rattle.snmp_gate.specs.declared.waiting_message.WaitingMessage.{WaitingMessa
 use Rattle.snmp_gate.specs.declared.work.Work.{Work}
 use Rattle.snmp_gate.specs.declared.work.Work.TheVariants.{Open, Ends}
 use Rattle.snmp_gate.proofs.GroupSteps.{group_at, groups_set}
+use Rattle.snmp_gate.proofs.Shares.{shared_answered, shared_at, shared_begun, shared_joined, shared_worked}
 use Rattle.snmp_gate.proofs.Questions.{all_answered, all_joined, all_worked, at_place, few_begun, few_less, few_more, few_worked, long_joined, long_left}
 
 abbrev pub Waits : Type 0
@@ -77,6 +78,7 @@ module _ (limits : GateLimits) (old new : Waits) (most : new.most ≡ old.most) 
     most_messages = messages ∙ b.most_messages;
     few = subst (λ (gs : List (Group WaitingMessage Work)). length gs ≤ limits.waiting) (sym same) b.few;
     messages = subst (All (IsFew limits.joined)) (sym same) b.messages;
+    shared = subst (AreShared limits) (sym same) b.shared;
     timely = subst (AreTimely limits) (sym same) b.timely;
   }
 
@@ -87,11 +89,13 @@ module _ (limits : GateLimits) (old new : Waits) (most : new.most ≡ old.most) 
     few = omega (arith, long_joined old.most_messages (groups_of old.list.items) (groups_of new.list.items) place m becomes j, b.few);
     messages = all_joined (IsFew limits.joined) old.most_messages (groups_of old.list.items) (groups_of new.list.items) place m becomes j
         (λ g at room f. few_more (λ (x : WaitingMessage). x) 0 limits.joined m g (omega (arith, room, b.most_messages)) f) b.messages;
+    shared = shared_joined limits old.most_messages (groups_of old.list.items) place m (groups_of new.list.items) becomes j b.shared;
     timely = all_joined (λ (g : Group WaitingMessage Work). IsTimely limits g.work) old.most_messages (groups_of old.list.items) (groups_of new.list.items) place m becomes j (λ g at room f. f) b.timely;
   }
 
-  pub bounded_begun : (n : ℕ) (m : WaitingMessage) (w : Work) → length old.list.items < old.most → groups_of new.list.items ≡ groups_of old.list.items ++ begun n m w ∷ [] → IsFresh w → AreBounded limits old → AreBounded limits new
-  bounded_begun n m w room is fresh b =
+  pub bounded_begun : (n : ℕ) (m : WaitingMessage) (w : Work) → length old.list.items < old.most → groups_of new.list.items ≡ groups_of old.list.items ++ begun n m w ∷ [] → IsFresh w
+      → (IsShareFull limits.waiting_per_device (groups_of old.list.items) w → ⊥) → AreBounded limits old → AreBounded limits new
+  bounded_begun n m w room is fresh share b =
       let gs = groups_of old.list.items in
       let long : length (groups_of new.list.items) ≡ length gs + 1 = ap (λ (x : List (Group WaitingMessage Work)). length x) is ∙ length_push gs (begun n m w) in
       let same : length gs ≡ length old.list.items = length-map old.list.items (λ (r : WaitingRequest WaitingMessage Work). group_of r) in record {
@@ -99,16 +103,18 @@ module _ (limits : GateLimits) (old new : Waits) (most : new.most ≡ old.most) 
         most_messages = messages ∙ b.most_messages;
         few = omega (arith, long, same, room, b.most);
         messages = subst (All (IsFew limits.joined)) (sym is) (All-push (IsFew limits.joined) gs (begun n m w) b.messages (few_begun (λ (x : WaitingMessage). x) 0 limits.joined n m w));
+        shared = shared_begun limits gs (groups_of new.list.items) n m w is share b.shared;
         timely = subst (AreTimely limits) (sym is) (All-push (λ (g : Group WaitingMessage Work). IsTimely limits g.work) gs (begun n m w) b.timely (fresh_timely limits w fresh));
       }
 
-  pub bounded_worked : (place : ℕ) (before after : Work) → IsWorked (groups_of old.list.items) place before after (groups_of new.list.items) → IsTimely limits after → AreBounded limits old → AreBounded limits new
-  bounded_worked place before after w timely b =
+  pub bounded_worked : (place : ℕ) (before after : Work) → IsWorked (groups_of old.list.items) place before after (groups_of new.list.items) → IsTimely limits after → IsForNoOther before after → AreBounded limits old → AreBounded limits new
+  bounded_worked place before after w timely other b =
       let gs = groups_of old.list.items in record {
         most = most ∙ b.most;
         most_messages = messages ∙ b.most_messages;
         few = omega (arith, ap (λ (x : List (Group WaitingMessage Work)). length x) w.new_is, length-set gs place (with_work w.group after), b.few);
         messages = all_worked (IsFew limits.joined) gs (groups_of new.list.items) place before after w (few_worked (λ (x : WaitingMessage). x) 0 limits.joined after) b.messages;
+        shared = shared_worked limits gs (groups_of new.list.items) place before after w other b.shared;
         timely = all_worked (λ (g : Group WaitingMessage Work). IsTimely limits g.work) gs (groups_of new.list.items) place before after w (λ g was. timely) b.timely;
       }
 
@@ -119,13 +125,14 @@ module _ (limits : GateLimits) (old new : Waits) (most : new.most ≡ old.most) 
         most_messages = messages ∙ b.most_messages;
         few = omega (arith, long_left gs (groups_of new.list.items) place a.group a.others a.at.within a.left, b.few);
         messages = all_answered (IsFew limits.joined) gs (groups_of new.list.items) place m a (few_less (λ (x : WaitingMessage). x) 0 limits.joined m) b.messages;
+        shared = shared_answered limits gs (groups_of new.list.items) place m a b.shared;
         timely = all_answered (λ (g : Group WaitingMessage Work). IsTimely limits g.work) gs (groups_of new.list.items) place m a (λ g next rest were f. f) b.timely;
       }
 
   -- something else becomes of the request at a place
   pub bounded_set : (place : ℕ) (r s : WaitingRequest WaitingMessage Work) → place < length old.list.items → r ≡ slice_index_or old.list.items place r → new.list.items ≡ slice_set old.list.items place s
-      → s.others ≡ r.others → (AreTimely limits (groups_of old.list.items) → AreTimely limits (groups_of new.list.items)) → AreBounded limits old → AreBounded limits new
-  bounded_set place r s within is set others timely b =
+      → s.others ≡ r.others → IsForNoOther r.work s.work → (AreTimely limits (groups_of old.list.items) → AreTimely limits (groups_of new.list.items)) → AreBounded limits old → AreBounded limits new
+  bounded_set place r s within is set others other timely b =
       let gs = groups_of old.list.items in
       let at = group_at old.list.items place r within is in
       let groups : groups_of new.list.items ≡ slice_set gs place (group_of s) = ap (λ (rs : List (WaitingRequest WaitingMessage Work)). groups_of rs) set ∙ groups_set old.list.items place s in
@@ -136,6 +143,7 @@ module _ (limits : GateLimits) (old new : Waits) (most : new.most ≡ old.most) 
         few = omega (arith, ap (λ (x : List (Group WaitingMessage Work)). length x) groups, length-set gs place (group_of s), b.few);
         messages = subst (All (IsFew limits.joined)) (sym groups)
             (All-set (IsFew limits.joined) gs place (group_of s) (record { some = omega arith; few = λ more. omega (arith, long, few.few (omega (arith, long, more))) }) b.messages);
+        shared = subst (AreShared limits) (sym groups) (shared_at limits gs place (group_of r) (group_of s) at other b.shared);
         timely = timely b.timely;
       }
 

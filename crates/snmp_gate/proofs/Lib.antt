@@ -31,6 +31,7 @@ pub mod SetsKept
 pub mod SetsGoing
 pub mod GivingUp
 pub mod SetsComing
+pub mod Shares
 pub mod Joining
 pub mod Coming
 pub mod Endings

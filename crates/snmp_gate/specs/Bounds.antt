@@ -1,9 +1,11 @@
 -- What a gateway keeps to, whatever comes.
 --
--- `IsTimely`: a request's device was asked as often, and as late, as it may be. `AreBounded`: there are as many
--- requests as may wait, and messages as may join one. `AsksBounded`: each device is asked as much as it may be at once.
--- `IsBounded`: all of that. `IsFresh`, `IsNew`: a request whose device wasn't asked yet. Moments are milliseconds.
-use Rattle.std.specs.Prelude.{◌≡◌, ◌+◌, ◌<◌, ◌≤◌, ⊤, ℕ, max, List, All, None, length, map}
+-- `IsTimely`: a request's device was asked as often, and as late, as it may be. `waiting_for`: how many requests wait
+-- for a device. `AreBounded`: there are as many requests as may wait, in all and for each device, and messages as may
+-- join one. `AsksBounded`: each device is asked as much as it may be at once. `IsBounded`: all of that. `IsFresh`,
+-- `IsNew`: a request whose device wasn't asked yet. Times are milliseconds.
+use Rattle.std.specs.Prelude.{◌≡◌, ◌+◌, ◌<◌, ◌≤◌, ⊤, ℕ, cond, max, nat_eq, List, All, None, length, map}
+use Rattle.std.specs.List.{sum_by}
 use Rattle.snmp_gate.specs.Due.{retries_in}
 use Rattle.snmp_gate.specs.Groups.{Group, groups_of}
 use Rattle.snmp_gate.specs.GroupRuns.{IsFew}
@@ -54,11 +56,33 @@ MayBeAsked limits now (Open o) = (now < o.timer.began + (retries_in limits o.tas
     × (times_asked o.timer.turn < max 1 (retries_in limits o.task.task).tries)
 MayBeAsked limits now (Ends e) = ⊤
 
+-- 1 if it waits for this device, or for its answer, and 0 if it doesn't
+abbrev pub for_device : ℕ → Work → ℕ
+for_device device (Open o) = cond (nat_eq device o.device) 1 0
+for_device device (Ends e) = 0
+
+abbrev pub waiting_for : ℕ → List (Group WaitingMessage Work) → ℕ
+waiting_for device groups = sum_by (λ (g : Group WaitingMessage Work). for_device device g.work) groups
+
+-- another work waits for the same device, or for none
+abbrev pub IsForNoOther : Work → Work → Type 0
+IsForNoOther before after = (device : ℕ) → for_device device after ≤ for_device device before
+
+-- it is for a device, and as many requests wait for that as may
+abbrev pub IsShareFull : ℕ → List (Group WaitingMessage Work) → Work → Type 0
+IsShareFull share groups (Open o) = share ≤ waiting_for o.device groups
+IsShareFull share groups (Ends e) = ⊥
+
+-- no device has more of the requests than its share
+abbrev pub AreShared : GateLimits → List (Group WaitingMessage Work) → Type 0
+AreShared limits groups = (device : ℕ) → waiting_for device groups ≤ limits.waiting_per_device
+
 pub record AreBounded (limits : GateLimits) (rs : WaitingRequests WaitingMessage Work) : Type 0 where
   pub most : rs.most ≡ limits.waiting
   pub most_messages : rs.most_messages ≡ limits.joined
   pub few : length (groups_of rs.list.items) ≤ limits.waiting
   pub messages : All (IsFew limits.joined) (groups_of rs.list.items)
+  pub shared : AreShared limits (groups_of rs.list.items)
   pub timely : AreTimely limits (groups_of rs.list.items)
 
 -- how much a device may be asked at once

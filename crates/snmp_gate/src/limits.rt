@@ -7,6 +7,8 @@ use crate::retries::Retries;
 pub struct GateLimits {
     /// How many requests wait at most.
     pub waiting: usize,
+    /// How many of them wait for one device at most, so that a device that doesn't answer leaves room for the others.
+    pub waiting_per_device: usize,
     /// How many messages wait at most that ask the same. One waits in any case.
     pub joined: usize,
     /// How often a device is asked for one request at most.
@@ -28,6 +30,7 @@ impl Default for GateLimits {
     fn default() -> GateLimits {
         GateLimits {
             waiting: 1_024,
+            waiting_per_device: 256,
             joined: 16,
             rounds: 64,
             retries: Retries {

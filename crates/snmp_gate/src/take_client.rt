@@ -1,7 +1,7 @@
 //! What comes from clients.
 
 ghost use Rattle.std.specs.Prelude.{◌≡◌, ◌↔◌, ◌<◌, ◌≤◌, ◌/◌, ℕ, List, Some, length, IfOk, IfSome, IsTrue};
-ghost use Rattle.std.specs.Prelude.{MatchOption, OnErr, Option as OptionIs};
+ghost use Rattle.std.specs.Prelude.{MatchOption, OnErr, Option as OptionIs, cond};
 ghost use Rattle.std.specs.List.{HoldsAt};
 ghost use Rattle.sha2.specs.Sha256.{sha256};
 ghost use Rattle.snmp_incoming.specs.Answers.{given_of};
@@ -11,12 +11,13 @@ ghost use Rattle.snmp_gate.specs.Beginning.{AreUnhandledBy, BeginsWell, IsKnownO
 ghost use Rattle.snmp_gate.specs.Beginning.{IsOfDatagram};
 ghost use Rattle.snmp_gate.specs.Causes.{EndsFor, IfOnwardEnds, IfWorkEnds, IsUnhandledBy};
 ghost use Rattle.snmp_gate.specs.Beginning.{IsUntaken, MayBeJoined, TakenIn};
-ghost use Rattle.snmp_gate.specs.Bounds.{IsNew};
+ghost use Rattle.snmp_gate.specs.Bounds.{IsNew, IsShareFull, for_device, waiting_for};
 ghost use Rattle.snmp_gate.specs.Devices.{IsDeviceOf};
+ghost use Rattle.snmp_gate.specs.Groups.{groups_of};
 ghost use Rattle.snmp_gate.specs.History.{Happening};
 ghost use Rattle.snmp_gate.specs.Noting.{AsksSet, IsNotedAgain, IsNotedFor, IsUnnoted};
 ghost use Rattle.snmp_gate.specs.Sets.{KeepsSets};
-ghost use Rattle.snmp_gate.specs.Untaken.{HasCause, IsCauseOf};
+ghost use Rattle.snmp_gate.specs.Untaken.{AsksIn, HasCause, IsCauseOf};
 ghost use Rattle.snmp_gate.specs.Waiting.{ClientHappens, GateStands, IsAsBefore, IsRefusedBy, SameButSets, Stays};
 ghost use Rattle.snmp_gate.specs.Work.{OnwardStands, RepeatsAtMost};
 ghost use Rattle.snmp_gate.specs.Said.{IsUnasked, Said};
@@ -86,6 +87,29 @@ pub(crate) fn work_of(device: usize, now: u64, onward: Onward) -> Work
         }),
         Onward::Ends(ending) => Work::Ends(ending),
     }
+}
+
+/// Returns true if a request waits for this device.
+fn is_for(work: &Work, device: usize) -> bool
+    ensures { for_device device work.now ≡ cond result 1 0 }
+{
+    match work {
+        Work::Open(open) => open.device == device,
+        Work::Ends(_) => false,
+    }
+}
+
+/// Returns how many of the requests wait for this device.
+fn waiting_for(requests: &[WaitingRequest<WaitingMessage, Work>], device: usize) -> usize
+    ensures { result ≡ waiting_for device (groups_of requests.now) }
+{
+    let mut count = 0;
+    for request in requests {
+        if is_for(&request.work, device) {
+            count += 1;
+        }
+    }
+    count
 }
 
 /// Returns true if a Set's device is to be asked.
@@ -208,7 +232,7 @@ impl Gate {
             → TakenIn before now datagram message taken self.new) }
         ensures accepts { IfOk result IsNoRefusal }
         ensures untaken { IfOk result (λ taken. IsUntaken taken → IsAsBefore now self.old self.new) }
-        ensures cause { IfOk result (IsCauseOf self.old now message.digest) }
+        ensures cause { IfOk result (IsCauseOf self.old now (AsksIn message) message.digest) }
         ensures agent { self.new.agent ≡ self.old.agent }
         ensures stays { Stays self.old self.new }
         ensures err { OnErr result (IsAsBefore now self.old self.new) }
@@ -270,7 +294,7 @@ impl Gate {
             → GateStands since before self.old → TakenIn before now datagram message taken self.new) }
         ensures accepts { IfOk result IsNoRefusal }
         ensures untaken { IfOk result (λ taken. IsUntaken taken → IsAsBefore now self.old self.new) }
-        ensures cause { IfOk result (IsCauseOf self.old now message.digest) }
+        ensures cause { IfOk result (IsCauseOf self.old now (AsksIn message) message.digest) }
         ensures agent { self.new.agent ≡ self.old.agent }
         ensures stays { Stays self.old self.new }
         ensures err { OnErr result (IsAsBefore now self.old self.new) }
@@ -281,6 +305,9 @@ impl Gate {
         let Some(work) = self.first_work(now, &message, unhandled)? else {
             return Ok(ClientTaken::SetOfBefore);
         };
+        if self.is_share_full(&work) {
+            return Ok(ClientTaken::NoRoom);
+        }
         let noted = self.note_asked(now, &work, message.digest)?;
         if let Noted::Before = noted {
             return Ok(ClientTaken::SetOfBefore);
@@ -294,6 +321,19 @@ impl Gate {
                 self.unnote(noted);
                 Err(none)
             }
+        }
+    }
+
+    /// Returns true if this is for a device, and as many requests wait for it as may.
+    fn is_share_full(&self, work: &Work) -> bool
+        ensures { IsTrue result ↔ IsShareFull self.now.limits.waiting_per_device
+            (groups_of self.now.requests.list.items) work.now }
+    {
+        match work {
+            Work::Open(open) => {
+                waiting_for(self.requests.requests(), open.device) >= self.limits.waiting_per_device
+            }
+            Work::Ends(_) => false,
         }
     }
 

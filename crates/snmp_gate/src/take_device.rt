@@ -17,7 +17,7 @@ ghost use Rattle.snmp_gate.specs.Ends.{EndsIfSet, EndsSet, IsEndFor};
 ghost use Rattle.snmp_gate.specs.declared.set_answer.ResponseStatus.{ResponseStatus as Says};
 ghost use Rattle.snmp_gate.specs.declared.task.Task.TheVariants as TaskIs;
 ghost use Rattle.snmp_gate.specs.Beginning.{MayBeJoined};
-ghost use Rattle.snmp_gate.specs.Bounds.{IsFresh};
+ghost use Rattle.snmp_gate.specs.Bounds.{IsForNoOther, IsFresh};
 ghost use Rattle.snmp_gate.specs.History.{Happening};
 ghost use Rattle.snmp_gate.specs.Noting.{AsksSet};
 ghost use Rattle.snmp_gate.specs.Taking.{AnswerPlace, IsCommunityOfWork, OpenSaysSame, TaskSaysSame, WaitsFor};
@@ -88,6 +88,7 @@ fn work_after(asked: OpenRequest, taken: AnswerTaken, viewer: &Viewer<'_>, late:
     ensures after { (tables : Tables) (q : Question) (told : Said) → IsViewerOf tables q viewer.now
         → IsEndFor tables q told taken → TaskHas tables q told asked.task.task → WorkAfter tables q told asked result }
     ensures no_set { ¬ AsksSet result }
+    ensures device { IsForNoOther (Open asked) result }
     ensures first { MayBeJoined result }
     ensures responds { EndsIfSet asked.task.task taken → IfWorkEnds HasResponse result }
     ensures fresh { IsFresh result }
@@ -171,6 +172,7 @@ fn after_answer(
         → question_in message.now ≡ Some q → old ≡ Open o → IsEndFor tables.now q told became
         → TaskHas tables.now q told o.task.task → WorkAfter tables.now q told o result }
     ensures no_set { ¬ AsksSet result }
+    ensures device { IsForNoOther old result }
     ensures first { (o : OpenIs) → old ≡ Open o → MayBeJoined result }
     ensures responds { (o : OpenIs) → old ≡ Open o → EndsIfSet o.task.task became
         → IfWorkEnds HasResponse result }
@@ -204,6 +206,7 @@ fn take_answer(
         → SaysAll (request_of_task q o.task.task) answer.now told
         → TaskStands tables.now q told o.task.task → WorkAfter tables.now q told o work.new) }
     ensures no_set { IfOk result (λ _. ¬ AsksSet work.new) }
+    ensures device { IfOk result (λ _. IsForNoOther work.old work.new) }
     ensures first { IfOk result (λ _. (o : OpenIs) → work.old ≡ Open o → MayBeJoined work.new) }
     ensures responds { IfOk result (λ _. (o : OpenIs) → work.old ≡ Open o → IfWorkEnds HasResponse work.new) }
     ensures fresh { IfOk result (λ _. IsFresh work.new) }

@@ -79,7 +79,7 @@ each_behind P [] more h f = f
 each_behind P (k ∷ ks) more h f = (h.0, each_behind P ks more h.1 f)
 
 abbrev pub gate_limit_keys : List GateKey
-gate_limit_keys = keys.Limit limits.Waiting ∷ keys.Limit limits.Rounds ∷ keys.Limit limits.Again ∷ keys.Limit limits.Tries ∷ keys.Limit limits.Last ∷ keys.Limit limits.Gather ∷ []
+gate_limit_keys = keys.Limit limits.Waiting ∷ keys.Limit limits.Rounds ∷ keys.Limit limits.Again ∷ keys.Limit limits.Tries ∷ keys.Limit limits.Last ∷ keys.Limit limits.Gather ∷ keys.Limit limits.WaitingPerDevice ∷ []
 
 abbrev pub device_limit_keys : List GateKey
 device_limit_keys = keys.Limit limits.Repetitions ∷ keys.Limit limits.MaxSize ∷ keys.Limit limits.AtOnce ∷ []
@@ -90,7 +90,7 @@ flag_keys = keys.LongAnswers ∷ keys.ReportUnreachable ∷ []
 -- ---- tables are right at each key
 
 pub gate_limits_right : (t : Members) {own : _} → AreGateLimits t own → EachKey (IsRightAt t) gate_limit_keys
-gate_limits_right t h = (right_limit _ _ _ h.waiting, (right_limit _ _ _ h.rounds, (right_limit _ _ _ h.again, (right_limit _ _ _ h.tries, (right_limit _ _ _ h.last, (right_limit _ _ _ h.gather, tt))))))
+gate_limits_right t h = (right_limit _ _ _ h.waiting, (right_limit _ _ _ h.rounds, (right_limit _ _ _ h.again, (right_limit _ _ _ h.tries, (right_limit _ _ _ h.last, (right_limit _ _ _ h.gather, (right_limit _ _ _ h.waiting_per_device, tt)))))))
 
 pub device_limits_right : (t : Members) {own : _} → AreDeviceLimits t own → EachKey (IsRightAt t) device_limit_keys
 device_limits_right t h = (right_limit _ _ _ h.repetitions, (right_limit _ _ _ h.max_size, (right_limit _ _ _ h.at_once, tt)))

@@ -122,6 +122,7 @@ one_gate t a b h k =
     let tries = same_limit _ _ _ _ h.limits.tries k.limits.tries in
     let last = same_limit _ _ _ _ h.limits.last k.limits.last in
     let gather = same_limit _ _ _ _ h.limits.gather k.limits.gather in
+    let of_device = same_limit _ _ _ _ h.limits.waiting_per_device k.limits.waiting_per_device in
     let long = same_flag_or_false _ _ _ h.long_answers k.long_answers in
     let unreachable = same_flag_or_false _ _ _ h.report_unreachable k.report_unreachable in
     cc

@@ -24,6 +24,7 @@ limit_name limits.Again = codes "again"
 limit_name limits.Tries = codes "tries"
 limit_name limits.Last = codes "last"
 limit_name limits.Gather = codes "gather"
+limit_name limits.WaitingPerDevice = codes "waiting-per-device"
 limit_name limits.Repetitions = codes "repetitions"
 limit_name limits.MaxSize = codes "max-size"
 limit_name limits.AtOnce = codes "at-once"
@@ -48,7 +49,7 @@ key_name (keys.Limit key) = limit_name key
 abbrev pub listed : GateTable → List GateKey
 listed tables.Gate = keys.Engine ∷ keys.Boots ∷ keys.Listen ∷ keys.Traps ∷ keys.Limit limits.Waiting
     ∷ keys.Limit limits.Rounds ∷ keys.Limit limits.Again ∷ keys.Limit limits.Tries ∷ keys.Limit limits.Last
-    ∷ keys.Limit limits.Gather ∷ keys.LongAnswers ∷ keys.ReportUnreachable ∷ []
+    ∷ keys.Limit limits.Gather ∷ keys.Limit limits.WaitingPerDevice ∷ keys.LongAnswers ∷ keys.ReportUnreachable ∷ []
 listed tables.Device = keys.Context ∷ keys.Address ∷ keys.Community ∷ keys.WriteCommunity
     ∷ keys.Limit limits.Repetitions ∷ keys.Limit limits.MaxSize ∷ keys.Limit limits.AtOnce ∷ []
 listed tables.Receiver = keys.Address ∷ keys.User ∷ keys.Level ∷ keys.Kind ∷ []

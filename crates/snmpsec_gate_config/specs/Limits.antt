@@ -13,6 +13,7 @@ limit_of limits.Again = record { least = 1; most = 60000; default = 1000 }
 limit_of limits.Tries = record { least = 1; most = 100; default = 3 }
 limit_of limits.Last = record { least = 1; most = 60000; default = 5000 }
 limit_of limits.Gather = record { least = 0; most = 60000; default = 500 }
+limit_of limits.WaitingPerDevice = record { least = 1; most = 65535; default = 256 }
 limit_of limits.Repetitions = record { least = 1; most = 65535; default = 32 }
 limit_of limits.MaxSize = record { least = 484; most = 65507; default = 65507 }
 limit_of limits.AtOnce = record { least = 1; most = 1024; default = 32 }

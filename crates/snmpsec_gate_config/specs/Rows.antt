@@ -29,6 +29,8 @@ pub record AreGateLimits (t : Members) (own : GatewayLimits) : Type 0 where
   pub tries : IsLimit limits.Tries (at t (keys.Limit limits.Tries)) own.tries
   pub last : IsLimit limits.Last (at t (keys.Limit limits.Last)) own.last
   pub gather : IsLimit limits.Gather (at t (keys.Limit limits.Gather)) own.gather
+  pub waiting_per_device :
+      IsLimit limits.WaitingPerDevice (at t (keys.Limit limits.WaitingPerDevice)) own.waiting_per_device
 
 -- the table [gate]
 pub record IsGate (t : Members) (gate : GateSettings) : Type 0 where
@@ -86,6 +88,7 @@ pub record GateValues : Type 0 where
   pub tries : ℕ
   pub last : ℕ
   pub gather : ℕ
+  pub waiting_per_device : ℕ
   pub long_answers : Bool
   pub report_unreachable : Bool
 
@@ -101,6 +104,7 @@ gate_values gate = record {
   tries = gate.limits.tries;
   last = gate.limits.last;
   gather = gate.limits.gather;
+  waiting_per_device = gate.limits.waiting_per_device;
   long_answers = gate.long_answers;
   report_unreachable = gate.report_unreachable;
 }

@@ -26,7 +26,8 @@ fn gate_limits(row: &Table) -> Result<GatewayLimits, GateValueFault>
     ensures ok { IfOk result (AreGateLimits (table_view row.now)) }
     ensures fault { IfErr result (IsFirstFault (table_view row.now)
         (keys.Limit limits.Waiting ∷ keys.Limit limits.Rounds ∷ keys.Limit limits.Again
-        ∷ keys.Limit limits.Tries ∷ keys.Limit limits.Last ∷ keys.Limit limits.Gather ∷ [])) }
+        ∷ keys.Limit limits.Tries ∷ keys.Limit limits.Last ∷ keys.Limit limits.Gather
+        ∷ keys.Limit limits.WaitingPerDevice ∷ [])) }
 {
     let waiting = limit(row, LimitKey::Waiting)?;
     let rounds = limit(row, LimitKey::Rounds)?;
@@ -34,8 +35,10 @@ fn gate_limits(row: &Table) -> Result<GatewayLimits, GateValueFault>
     let tries = limit(row, LimitKey::Tries)?;
     let last = limit(row, LimitKey::Last)?;
     let gather = limit(row, LimitKey::Gather)?;
+    let waiting_per_device = limit(row, LimitKey::WaitingPerDevice)?;
     Ok(GatewayLimits {
         waiting: waiting as usize,
+        waiting_per_device: waiting_per_device as usize,
         rounds,
         again: u64::from(again),
         tries,

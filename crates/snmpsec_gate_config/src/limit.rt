@@ -38,6 +38,7 @@ impl LimitKey {
             LimitKey::Tries => bounds(1, 100, 3),
             LimitKey::Last => bounds(1, 60_000, 5000),
             LimitKey::Gather => bounds(0, 60_000, 500),
+            LimitKey::WaitingPerDevice => bounds(1, 65_535, 256),
             LimitKey::Repetitions => bounds(1, 65_535, 32),
             LimitKey::MaxSize => bounds(484, 65_507, 65_507),
             LimitKey::AtOnce => bounds(1, 1024, 32),

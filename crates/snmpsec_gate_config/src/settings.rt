@@ -10,6 +10,8 @@ use vacm_core::Name;
 pub struct GatewayLimits {
     /// How many requests may wait, from 1 to 65535.
     pub waiting: usize,
+    /// How many of them may wait for one device, from 1 to 65535.
+    pub waiting_per_device: usize,
     /// How often a device is asked for one request, from 1 to 65535.
     pub rounds: u32,
     /// How long a device has for its answer before it is asked again, from 1 to 60000.

@@ -44,6 +44,7 @@ impl GateTable {
                 GateKey::Limit(LimitKey::Tries),
                 GateKey::Limit(LimitKey::Last),
                 GateKey::Limit(LimitKey::Gather),
+                GateKey::Limit(LimitKey::WaitingPerDevice),
                 GateKey::LongAnswers,
                 GateKey::ReportUnreachable,
             ],
@@ -96,6 +97,8 @@ pub enum LimitKey {
     Last,
     /// How long after it came a GetBulkRequest with one whole repetition is answered.
     Gather,
+    /// How many requests may wait for one device.
+    WaitingPerDevice,
     /// How many repetitions a device is asked for.
     Repetitions,
     /// The longest datagram that a device takes.
@@ -116,6 +119,7 @@ impl LimitKey {
             LimitKey::Tries => "tries",
             LimitKey::Last => "last",
             LimitKey::Gather => "gather",
+            LimitKey::WaitingPerDevice => "waiting-per-device",
             LimitKey::Repetitions => "repetitions",
             LimitKey::MaxSize => "max-size",
             LimitKey::AtOnce => "at-once",

@@ -8,7 +8,8 @@ use std::test::Fail;
 
 const TEXT: &[u8] = b"\
 [gate]\nengine = '8000000001'\nboots = 'b'\nlisten = ['127.0.0.1:161', '[::1]:161']\ntraps = ['[::]:162']\n\
-waiting = 1\nrounds = 2\nagain = 3\ntries = 4\nlast = 5\ngather = 6\nreport-unreachable = true\n\
+waiting = 1\nrounds = 2\nagain = 3\ntries = 4\nlast = 5\ngather = 6\nwaiting-per-device = 7\n\
+report-unreachable = true\n\
 [[device]]\ncontext = 'a'\naddress = '10.1.0.7:161'\ncommunity = 'c'\n\
 [[device]]\ncontext = 'b'\naddress = '10.1.0.8:161'\ncommunity = 'c'\nwrite-community = 'w'\n\
 repetitions = 1\nmax-size = 484\nat-once = 1024\n\
@@ -18,6 +19,7 @@ repetitions = 1\nmax-size = 484\nat-once = 1024\n\
 /// Each limit of the gateway is another one than its default.
 const LIMITS: GatewayLimits = GatewayLimits {
     waiting: 1,
+    waiting_per_device: 7,
     rounds: 2,
     again: 3,
     tries: 4,

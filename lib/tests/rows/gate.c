@@ -26,6 +26,9 @@ static void limits(void) {
     add_flag("report-unreachable");
 }
 
+/* `share WAITING-PER-DEVICE`, after `limits` */
+static void share(void) { add_setting("waiting-per-device"); }
+
 static void add_text(const char *key, snmpsec_octets of) {
     add(&devices, "%s = ", key);
     add_name(&devices, of);
@@ -176,6 +179,7 @@ void gate_row(const char *kind) {
     else if (!strcmp(kind, "tables")) set_tables();
     else if (is_table_row(kind)) return;
     else if (!strcmp(kind, "limits")) limits();
+    else if (!strcmp(kind, "share")) share();
     else if (!strcmp(kind, "gate")) begin();
     else if (!gate) fail("a gateway");
     else if (!strcmp(kind, "take_client")) take_client();

@@ -32,6 +32,7 @@ DEVICES = (b"odd", 65507), (b"even", 65507), (b"small", 484)
 VIEW = plain.View([((1, 3, 6, 1), b"", True), ((*TABLE, 2), b"", False)])
 LIMITS = dict(
     waiting=1024,
+    waiting_per_device=256,
     joined=16,
     rounds=64,
     again=1000,
@@ -52,12 +53,13 @@ BACK = (1, 3, 6, 1, 2, 1, 1, 1, 0)
 class Odd:
     """One gateway, whose rows are printed as they come."""
 
-    def __init__(self):
+    def __init__(self, **limits):
         tables = plain.Tables(
             [name for name, _ in DEVICES], {b"guest": "g"}, [("g", b"", False, 0, "v", "v")], {"v": VIEW}
         )
         devices = [plain.Device(name, b"public", b"write", most, 32, 100, 32) for name, most in DEVICES]
-        self.gate, self.now, self.number, self.asked = plain.Gateway(ENGINE, 1, 0, tables, devices, LIMITS), 1000, 0, []
+        self.gate = plain.Gateway(ENGINE, 1, 0, tables, devices, {**LIMITS, **limits})
+        self.now, self.number, self.asked = 1000, 0, []
 
     def row(self, words, answer):
         print(f"{words} -> {answer}")
@@ -389,15 +391,34 @@ WAYS = (
     a_new_set_beside_one_of_before,
 )
 
+
+def a_silent_device_leaves_room(it):
+    for row in (1, 2, 3):
+        it.request(GET, [(*TABLE, 1, row)])
+    it.request(SET, [ONE])
+    it.request(GET, [ONE], context=b"even")
+    it.answer()
+    it.wait(10000)
+    it.request(SET, [ONE])
+
+
+def say_devices():
+    for name, most in DEVICES:
+        print(f"device '{name.decode()} 'public 'write {most} 32 32")
+    print(f"gate {ENGINE.hex()} 1 0")
+
+
 print(HEAD)
 print("user guest - -\nusers -> loaded")
 print(f"tables '{TABLES}\nlimits " + " ".join(str(LIMITS[it]) for it in plain.CONFIGURED))
-for name, most in DEVICES:
-    print(f"device '{name.decode()} 'public 'write {most} 32 32")
-print(f"gate {ENGINE.hex()} 1 0")
+say_devices()
 odd = Odd()
 for way in WAYS:
     print(f"\n# {way.__name__.replace('_', ' ')}")
     way(odd)
     odd.wait(10000)
 print(f"\nwaiting -> {len(odd.gate.requests)}")
+
+print("\n# a silent device leaves room\nshare 2")
+say_devices()
+a_silent_device_leaves_room(Odd(waiting_per_device=2))

@@ -1,11 +1,13 @@
-use Rattle.std.proofs.Common.{ap, subst, sym, ◌∙◌, ◌≤◌, Option}
+use Rattle.std.proofs.Common.{ap, arith, subst, sym, ◌∙◌, ◌≤◌, Option}
 use Rattle.snmp_msg.specs.Pdu.{pdu_of}
 use Rattle.snmp_walk.specs.declared.answer.AnswerFault.{AnswerFault}
+use Rattle.snmp_gate.specs.Bounds.{for_device}
 use Rattle.snmp_gate.specs.Fits.{TaskFits, WorkFits}
 use Rattle.snmp_gate.specs.Messages.{seen_in}
 use Rattle.snmp_gate.specs.Work.{SaysAll, TaskStands, most_repetitions, request_of_task}
 use Rattle.snmp_gate.specs.declared.work.OpenRequest.{OpenRequest}
 use Rattle.snmp_gate.specs.declared.work.Work.{Work}
+use Rattle.snmp_gate.proofs.Shares.{same_device}
 use Rattle.snmp_gate.proofs.Endings.{after_same, one_open}
 use Rattle.snmp_gate.proofs.take_device.take_answer.Goals as goal
 
@@ -29,3 +31,7 @@ returns-clause-fits c q asked =
     let answer = pdu_of c.args.answer.now in
     subst (λ (w : Work). WorkFits Seen w answer c.fault_in.result) (sym c.in-Open.is)
     (subst (λ (fault : Option AnswerFault). TaskFits Seen c.in-Open.waiting.task.task answer fault) (sym c.fault_in.ensures) (c.in_ok-became.ensures.fits q asked))
+
+pub returns-clause-device : goal.returns-clause-device
+returns-clause-device c device =
+    omega (arith, c.after_answer.ensures.device device, ap (for_device device) c.replace-old.ensures.value, same_device c.in-Open.waiting c.take_open.new.waiting c.in_ok-became.ensures.device device, ap (for_device device) c.in-Open.is)

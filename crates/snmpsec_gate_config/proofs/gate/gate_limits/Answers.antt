@@ -41,3 +41,9 @@ returns-in_err-gather-clause-fault c =
     let p = err_from_is_err_and c.from_residual-in_err-gather.result c.from_residual-in_err-gather.ensures.1 in
     let f = c.in_err-gather.ensures.fault in
     rw (p.1, p.2) (first_fault (table_view c.args.row.now) gate_limit_keys _ (keys.Limit limits.Gather) f.0 (inr (right_limit _ _ _ c.in_ok-waiting.ensures.ok, inr (right_limit _ _ _ c.in_ok-rounds.ensures.ok, inr (right_limit _ _ _ c.in_ok-again.ensures.ok, inr (right_limit _ _ _ c.in_ok-tries.ensures.ok, inr (right_limit _ _ _ c.in_ok-last.ensures.ok, inl (refl, wrong_limit _ _ f.1))))))))
+
+pub returns-in_err-waiting_per_device-clause-fault : goal.returns-in_err-waiting_per_device-clause-fault
+returns-in_err-waiting_per_device-clause-fault c =
+    let p = err_from_is_err_and c.from_residual-in_err-waiting_per_device.result c.from_residual-in_err-waiting_per_device.ensures.1 in
+    let f = c.in_err-waiting_per_device.ensures.fault in
+    rw (p.1, p.2) (first_fault (table_view c.args.row.now) gate_limit_keys _ (keys.Limit limits.WaitingPerDevice) f.0 (inr (right_limit _ _ _ c.in_ok-waiting.ensures.ok, inr (right_limit _ _ _ c.in_ok-rounds.ensures.ok, inr (right_limit _ _ _ c.in_ok-again.ensures.ok, inr (right_limit _ _ _ c.in_ok-tries.ensures.ok, inr (right_limit _ _ _ c.in_ok-last.ensures.ok, inr (right_limit _ _ _ c.in_ok-gather.ensures.ok, inl (refl, wrong_limit _ _ f.1)))))))))

@@ -1,4 +1,4 @@
-use Rattle.std.proofs.Common.{inl, inr, refl}
+use Rattle.std.proofs.Common.{inl, inr, refl, rules}
 use Rattle.std.proofs.lemmas.Result.{err_from_is_err_and}
 use Rattle.toml.specs.View.{table_view}
 use Rattle.snmpsec_config.proofs.Told.{wrong}
@@ -58,3 +58,15 @@ returns-in_err-report_unreachable-clause-fault c =
     let p = err_from_is_err_and c.from_residual-in_err-report_unreachable.result c.from_residual-in_err-report_unreachable.ensures.1 in
     let f = c.in_err-report_unreachable.ensures.fault in
     rw (p.1, p.2) (tells tables.Gate IsGate row _ keys.ReportUnreachable f.0 c.in_ok-only_listed.ensures.ok (inr (inl (_, c.in_ok-engine.ensures.ok), inr (inl (_, c.in_ok-path.ensures.ok), inr (inl (_, c.in_ok-listen.ensures.ok), inr (right_addresses_if_any _ _ c.in_ok-traps.ensures.ok, first_behind (IsRightAt row) gate_limit_keys flag_keys _ (gate_limits_right row c.in_ok-limits.ensures.ok) (inr (right_flag _ _ c.in_ok-long_answers.ensures.ok, inl (refl, wrong_flag _ f.1)))))))) (λ made stands. gate_right _ stands))
+
+pub returns-clause-gate : goal.returns-clause-gate
+returns-clause-gate c = record {
+  only = c.in_ok-only_listed.ensures.ok;
+  engine = c.in_ok-engine.ensures.ok;
+  boots = search rules;
+  listen = c.in_ok-listen.ensures.ok;
+  traps = c.in_ok-traps.ensures.ok;
+  limits = c.in_ok-limits.ensures.ok;
+  long_answers = c.in_ok-long_answers.ensures.ok;
+  report_unreachable = c.in_ok-report_unreachable.ensures.ok;
+}

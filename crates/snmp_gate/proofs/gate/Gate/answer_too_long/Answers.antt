@@ -16,7 +16,7 @@ use Rattle.snmp_gate.specs.declared.waiting_message.WaitingMessage.{WaitingMessa
 use Rattle.snmp_gate.specs.declared.work.RequestEnd.{RequestEnd}
 use Rattle.snmp_gate.specs.declared.work.Work.{Work}
 use Rattle.snmp_gate.specs.declared.work.Work.TheVariants.{Ends}
-use Rattle.snmp_gate.proofs.Bounded.{agent_same, bounded_worked, stays_on, stays_requests}
+use Rattle.snmp_gate.proofs.Bounded.{agent_same, bounded_same, bounded_worked, stays_on, stays_requests}
 use Rattle.snmp_gate.proofs.Causing.{causes_worked, responds_now}
 use Rattle.snmp_gate.proofs.Histories.{Waiting, ended_all, moved, too_long}
 use Rattle.snmp_gate.proofs.Keeping.{stands_kept}
@@ -69,7 +69,7 @@ returns-in-Ok-clause-stays c =
     let g = c.args.self.now in
     let mid : Gate = record g { requests = c.work-before.new.self } in
     stays_on g mid c.answer_at.new.self
-    (stays_requests g mid (agent_same g.agent g.agent refl) refl refl refl (bounded_worked g.limits g.requests c.work-before.new.self c.work-before.ensures.most c.work-before.ensures.most_messages c.args.place c.work-before.result _ c.work-before.ensures.worked tt))
+    (stays_requests g mid (agent_same g.agent g.agent refl) refl refl refl (bounded_worked g.limits g.requests c.work-before.new.self c.work-before.ensures.most c.work-before.ensures.most_messages c.args.place c.work-before.result _ c.work-before.ensures.worked tt (λ d. omega arith)))
     c.answer_at.ensures.stays
 
 pub returns-in-Err-clause-same : goal.returns-in-Err-clause-same
@@ -103,3 +103,13 @@ returns-in-Err-clause-err c =
 pub returns-in-Ok-clause-told : goal.returns-in-Ok-clause-told
 returns-in-Ok-clause-told c =
     worked_tells c.args.self.now.requests.list.items c.work-before.new.self.list.items c.args.place c.work-before.result _ c.in-Ok.sent c.work-before.ensures.worked refl c.requires.goes_on c.in-Ok.ensures.told
+
+pub returns-in-Err-clause-stays : goal.returns-in-Err-clause-stays
+returns-in-Err-clause-stays c =
+    let g = c.args.self.now in
+    let a = c.answer_at.new.self in
+    let is = c.in-Err.ensures.same in
+    let last : Gate = record a { requests = c.work.new.self } in
+    stays_requests g last (agent_same g.agent a.agent (ap (λ (x : Gate). x.agent) is)) (ap (λ (x : Gate). x.devices) is) (ap (λ (x : Gate). x.limits) is) (ap (λ (x : Gate). x.asks) is)
+    (bounded_same g.limits g.requests c.work.new.self (c.work.ensures.most ∙ ap (λ (x : Gate). x.requests.most) is ∙ c.work-before.ensures.most)
+    (c.work.ensures.most_messages ∙ ap (λ (x : Gate). x.requests.most_messages) is ∙ c.work-before.ensures.most_messages) (returns-in-Err-clause-same c))

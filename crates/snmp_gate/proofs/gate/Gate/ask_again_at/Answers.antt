@@ -3,6 +3,7 @@ use Rattle.snmp_gate.specs.Groups.{groups_of}
 use Rattle.snmp_gate.specs.History.{asked}
 use Rattle.snmp_gate.proofs.AsksKept.{asks_again, long_lists}
 use Rattle.snmp_gate.proofs.Histories.{asked_all, asked_so_far, moved}
+use Rattle.snmp_gate.proofs.Shares.{asked_no_other}
 use Rattle.snmp_gate.proofs.Bounded.{agent_same, bounded_set, stays_requests, stays_same}
 use Rattle.snmp_gate.proofs.GroupSteps.{on_err}
 use Rattle.snmp_gate.proofs.Keeping.{stays_as_before}
@@ -72,6 +73,7 @@ returns-clause-stays c =
     let s : WaitingRequest WaitingMessage Work = record { number = r.number; first = r.first; others = r.others; work = sets.work } in
     stays_requests g _ (agent_same g.agent g.agent refl) refl refl refl
     (bounded_set g.limits g.requests c.set_asked.new.requests c.set_asked.ensures.most c.set_asked.ensures.most_messages place r s c.requires.place sets.is sets.new_is refl
+    (asked_no_other rs c.set_asked.new.requests.list.items place _ c.device_at-device.result.0 c.device_at-device.result.1 sets c.device_at-device.ensures)
     (c.set_asked.ensures.timely g.limits (λ x. may_again g.limits g.asks.items c.args.now (slice_index_or rs place x).work (c.requires.due x))))
 
 pub returns-in_err-datagram-clause-err : goal.returns-in_err-datagram-clause-err

@@ -8,6 +8,7 @@ use Rattle.snmp_gate.specs.declared.requests.WaitingRequest.{WaitingRequest}
 use Rattle.snmp_gate.specs.declared.waiting_message.WaitingMessage.{WaitingMessage}
 use Rattle.snmp_gate.specs.declared.work.Todo.TheVariants.{Ask}
 use Rattle.snmp_gate.specs.declared.work.Work.{Work}
+use Rattle.snmp_gate.proofs.Shares.{asked_no_other}
 use Rattle.snmp_gate.proofs.Bounded.{agent_same, asks_set, bounded_set, stays_of, stays_same}
 use Rattle.snmp_gate.proofs.Questions.{at_place}
 use Rattle.snmp_gate.proofs.Todos.{asked_none, may_ask, open_asked, room_at, unasked}
@@ -125,6 +126,7 @@ returns-clause-stays c =
     let long = ap (λ (xs : List DeviceAsk). length xs) c.in_ok-ask.ensures.ok.1 ∙ length_push a.asks.items (ask_of c.in_ok-ask.field-0 c.device_at-device.result.1) in
     stays_of g _ (agent_same g.agent g.agent refl) refl refl
     (λ b. bounded_set g.limits g.requests c.set_asked.new.requests c.set_asked.ensures.most c.set_asked.ensures.most_messages place r s c.requires.place sets.is sets.new_is refl
+    (asked_no_other rs c.set_asked.new.requests.list.items place _ c.device_at-device.result.0 c.device_at-device.result.1 sets c.device_at-device.ensures)
     (c.set_asked.ensures.timely g.limits
     (at_read rs (λ (x : WaitingRequest WaitingMessage Work). MayBeAsked g.limits c.args.now x.work) place r c.requires.place sets.is
     (may_ask g.limits g.asks.items c.args.now r.work

@@ -5,6 +5,7 @@ use Rattle.sha2.specs.Sha256.{sha256}
 use Rattle.std.specs.Prelude.{All, Some, ℕ, ◌∷◌, ◌≡◌, ◌≢◌, ◌<◌, ◌≤◌, ◌+◌, ◌-◌, ◌^◌, length, min, suc}
 use Rattle.snmp_agent.specs.Agent.{AgentState}
 use Rattle.snmp_gate.specs.Beginning.{BeginsWell}
+use Rattle.snmp_gate.specs.Bounds.{IsShareFull}
 use Rattle.snmp_gate.specs.Causes.{EndsFor, IfWorkEnds}
 use Rattle.snmp_gate.specs.Groups.{groups_of}
 use Rattle.snmp_gate.specs.Messages.{question_in}
@@ -13,6 +14,7 @@ use Rattle.snmp_gate.specs.History.{accepted}
 use Rattle.snmp_gate.specs.Sending.{Requests}
 use Rattle.snmp_gate.specs.Waiting.{IsAsBefore}
 use Rattle.snmp_gate.specs.declared.devices.Devices.{Devices}
+use Rattle.snmp_gate.specs.declared.limits.GateLimits.{GateLimits}
 use Rattle.snmp_gate.specs.declared.requests.WaitingRequests.{WaitingRequests}
 use Rattle.snmp_gate.specs.declared.waiting_message.WaitingMessage.{WaitingMessage}
 use Rattle.snmp_gate.specs.declared.work.Work.{Work}
@@ -30,8 +32,8 @@ use Rattle.snmp_gate.proofs.SetsComing.{begun_sets, task_asks}
 use Rattle.snmp_gate.proofs.Causing.{causes_begun, causes_later, causes_moved, ends_now}
 use Rattle.snmp_gate.proofs.Repeating.{begun_outcomes}
 use Rattle.snmp_gate.proofs.Joining.{begins_in_turn, begun_all}
-use Rattle.snmp_gate.specs.Untaken.{by_numbers, by_requests}
-use Rattle.snmp_gate.proofs.Untaken.{noted_before, noted_full}
+use Rattle.snmp_gate.specs.Untaken.{AsksIn, by_numbers, by_requests}
+use Rattle.snmp_gate.proofs.Untaken.{full_device, noted_before, noted_full}
 use Rattle.snmp_gate.proofs.gate.Gate.begin.Goals as goal
 use Rattle.snmp_gate.proofs.gate.Gate.begin.Goals.{then-is_full-via-then-is_full, then-is_full-via-else-is_full+then-next_number}
 
@@ -215,7 +217,7 @@ returns-in-Before-clause-cause c =
 pub returns-in-NoRoom-clause-cause : goal.returns-in-NoRoom-clause-cause
 returns-in-NoRoom-clause-cause c =
     let g = c.args.self.now in
-    noted_full c.args.now c.args.message.digest c.in-Some.work g c.first_work.new.self.sets.sets.items c.note_asked.new.self.sets.sets.items c.first_work.ensures.sets (rw c.in-NoRoom.is at c.in_ok-noted.ensures.noted)
+    noted_full c.args.now c.args.message.digest c.in-Some.work g c.first_work.new.self.sets.sets.items c.note_asked.new.self.sets.sets.items c.first_work.ensures.sets (AsksIn c.args.message) (rw c.in-NoRoom.is at c.in_ok-noted.ensures.noted)
 
 pub returns-in_err-noted-clause-stays : goal.returns-in_err-noted-clause-stays
 returns-in_err-noted-clause-stays c = stays_twice c.args.self.now c.first_work.new.self c.note_asked.new.self c.first_work.ensures.same c.note_asked.ensures.same
@@ -228,7 +230,9 @@ returns-in-Ok-clause-stays c =
     stays_on g n new (stays_twice g c.first_work.new.self n c.first_work.ensures.same c.note_asked.ensures.same)
     (stays_requests n new (agent_same n.agent n.agent refl) refl refl refl (bounded_begun n.limits n.requests c.begin.new.self c.begin.ensures.most c.begin.ensures.most_messages n.requests.next c.args.message c.in-Some.work
     (subst (λ (rs : WaitingRequests WaitingMessage Work). length rs.list.items < rs.most) (sym (c.note_asked.ensures.same.requests ∙ c.first_work.ensures.same.requests))
-    (below (length g.requests.list.items) g.requests.most (λ le. false≢true (c.if-is_full.ensures.1 le)))) c.in-Ok.ensures.ok (new_fresh c.args.now c.in-Some.work (rw c.in-Some.is at c.in_ok-work.ensures.fresh))))
+    (below (length g.requests.list.items) g.requests.most (λ le. false≢true (c.if-is_full.ensures.1 le)))) c.in-Ok.ensures.ok (new_fresh c.args.now c.in-Some.work (rw c.in-Some.is at c.in_ok-work.ensures.fresh))
+    (λ full. false≢true (c.if-is_share_full.ensures.1 (subst (λ (l : GateLimits). IsShareFull l.waiting_per_device (groups_of c.first_work.new.self.requests.list.items) c.in-Some.work) c.note_asked.ensures.same.limits
+    (subst (λ (rs : WaitingRequests WaitingMessage Work). IsShareFull n.limits.waiting_per_device (groups_of rs.list.items) c.in-Some.work) c.note_asked.ensures.same.requests full))))))
 
 pub returns-in-Err-clause-stays : goal.returns-in-Err-clause-stays
 returns-in-Err-clause-stays c =
@@ -236,3 +240,21 @@ returns-in-Err-clause-stays c =
     let n = c.note_asked.new.self in
     stays_on g c.first_work.new.self c.unnote.new.self (stays_noted g c.first_work.new.self c.first_work.ensures.same)
     (stays_forgotten c.first_work.new.self n c.begin.new.self c.unnote.new.self c.note_asked.ensures.same c.unnote.ensures.same (ap (λ (x : Requests). groups_of x) c.in-Err.ensures.err.0) c.in-Err.ensures.most c.in-Err.ensures.most_messages)
+
+pub returns-then-is_share_full-clause-takes : goal.returns-then-is_share_full-clause-takes
+returns-then-is_share_full-clause-takes c since before datagram later digest unhandled stands =
+    stands_noted c.args.now c.args.self.now c.first_work.new.self c.first_work.ensures.same c.first_work.ensures.sets since before later stands
+
+pub returns-then-is_share_full-clause-untaken : goal.returns-then-is_share_full-clause-untaken
+returns-then-is_share_full-clause-untaken c untaken = same_before c.args.now c.args.self.now c.first_work.new.self c.first_work.ensures.same c.first_work.ensures.sets
+
+pub returns-then-is_share_full-clause-stays : goal.returns-then-is_share_full-clause-stays
+returns-then-is_share_full-clause-stays c = stays_noted c.args.self.now c.first_work.new.self c.first_work.ensures.same
+
+pub returns-then-is_share_full-clause-cause : goal.returns-then-is_share_full-clause-cause
+returns-then-is_share_full-clause-cause c =
+    let g = c.args.self.now in
+    let first = c.first_work.ensures.same in
+    full_device c.args.now g c.requires.asks.0 c.args.message c.in-Some.work c.requires.asks.1 ((rw c.in-Some.is at c.in_ok-work.ensures.begins) c.requires.asks.0 c.requires.asks.1)
+    (subst (λ (l : GateLimits). IsShareFull l.waiting_per_device (groups_of g.requests.list.items) c.in-Some.work) first.limits
+    (subst (λ (rs : WaitingRequests WaitingMessage Work). IsShareFull c.first_work.new.self.limits.waiting_per_device (groups_of rs.list.items) c.in-Some.work) first.requests (c.is_share_full.ensures.0 c.if-is_share_full.true)))

@@ -1,4 +1,4 @@
-use Rattle.std.proofs.Common.{ap, subst, sym, ◌∙◌}
+use Rattle.std.proofs.Common.{ap, arith, subst, sym, ◌∙◌}
 use Rattle.snmp_agent.specs.Agent.{AgentState}
 use Rattle.snmp_gate.specs.Bounds.{AreBounded}
 use Rattle.snmp_gate.specs.Groups.{IsWorked, groups_of}
@@ -27,7 +27,7 @@ returns-clause-stays c =
     let same = c.end_ask.ensures.same in
     stays_of g new (agent_same g.agent new.agent same.agent) same.devices same.limits
     (λ b. subst (AreBounded g.limits) (sym same.requests)
-    (bounded_worked g.limits g.requests c.work.new.self c.work.ensures.most c.work.ensures.most_messages c.args.place c.work.result (Ends c.given_up_at-ending.result) c.work.ensures.worked tt b))
+    (bounded_worked g.limits g.requests c.work.new.self c.work.ensures.most c.work.ensures.most_messages c.args.place c.work.result (Ends c.given_up_at-ending.result) c.work.ensures.worked tt (λ d. omega arith) b))
     c.end_ask.ensures.bounded
 
 pub returns-clause-told : goal.returns-clause-told

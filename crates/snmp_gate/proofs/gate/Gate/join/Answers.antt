@@ -25,6 +25,7 @@ use Rattle.snmp_gate.proofs.Keeping.{forgotten, keeps_no_room, keeps_repeated, s
 use Rattle.snmp_gate.proofs.SetsComing.{joined_sets}
 use Rattle.snmp_gate.proofs.Repeating.{joined_outcomes}
 use Rattle.snmp_gate.proofs.Joining.{joined_all, joins_in_turn, request_asks}
+use Rattle.snmp_gate.specs.Untaken.{AsksIn}
 use Rattle.snmp_gate.proofs.Untaken.{again_before, again_full, full_of_messages}
 use Rattle.snmp_gate.proofs.gate.Gate.join.Goals as goal
 
@@ -118,12 +119,12 @@ returns-in-Repeated-clause-cause c =
 
 pub returns-in-NoRoom-clause-cause : goal.returns-in-NoRoom-clause-cause
 returns-in-NoRoom-clause-cause c =
-    again_full c.args.now c.args.message.digest c.args.self.now c.note_again.new.self.sets.sets.items (rw c.in-NoRoom.is at c.in_ok-note_again.ensures.noted)
+    again_full c.args.now c.args.message.digest c.args.self.now c.note_again.new.self.sets.sets.items (AsksIn c.args.message) (rw c.in-NoRoom.is at c.in_ok-note_again.ensures.noted)
 
 pub returns-in-Ok-NoRoom-clause-cause : goal.returns-in-Ok-NoRoom-clause-cause
 returns-in-Ok-NoRoom-clause-cause c =
     let joins = rw c.in-Ok-NoRoom.field-0-is at c.in-Ok-NoRoom.ensures.joined in
-    full_of_messages c.args.now c.args.self.now c.note_again.new.self.requests c.args.place joins.0 c.note_again.ensures.same.requests joins.1 joins.2
+    full_of_messages c.args.now c.args.self.now c.note_again.new.self.requests c.args.place joins.0 (AsksIn c.args.message) c.note_again.ensures.same.requests joins.1 joins.2
 
 pub returns-in-Err-clause-err : goal.returns-in-Err-clause-err
 returns-in-Err-clause-err c =

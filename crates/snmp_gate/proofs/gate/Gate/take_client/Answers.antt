@@ -15,6 +15,7 @@ use Rattle.snmp_gate.proofs.Coming.{message_happens, no_refusal, same_stands}
 use Rattle.snmp_gate.proofs.GroupSteps.{on_err}
 use Rattle.snmp_gate.proofs.Keeping.{as_before, as_before_same, if_err, stands_kept}
 use Rattle.snmp_gate.proofs.Sending.{on_ok}
+use Rattle.snmp_gate.specs.Untaken.{AsksIn, IsGivenIn}
 use Rattle.snmp_gate.proofs.Untaken.{cause_of}
 use Rattle.snmp_gate.proofs.gate.Gate.take_client.Goals as goal
 
@@ -110,13 +111,19 @@ pub returns-in-Some-clause-cause : goal.returns-in-Some-clause-cause
 returns-in-Some-clause-cause c =
     let g = c.args.self.now in
     let mid : Gate = record g { agent = c.take.new.self } in
-    on_ok c.join.result _ _ (cause_of c.args.now g mid c.in_ok-message.message.digest (sha256 c.args.datagram.now) refl refl c.in_ok-message.ensures.digest.own) c.join.ensures.cause
+    let m = c.in_ok-message.message in
+    let accepts = subst (λ (x : Given). Outcome (taker_of g.agent) g.agent.users (c.args.now / 1000) c.args.datagram.now (Ok x)) (sym c.in_ok-message.ensures.is.1) c.in-Ok.ensures.takes.0 in
+    on_ok c.join.result _ _ (cause_of c.args.now g mid (record { devices = refl; limits = refl; requests = refl; sets = refl }) (AsksIn m) (IsGivenIn g.agent c.args.now c.args.datagram.now) (λ context in_it. (m, accepts, in_it))
+    m.digest (sha256 c.args.datagram.now) c.in_ok-message.ensures.digest.own) c.join.ensures.cause
 
 pub returns-in-None-clause-cause : goal.returns-in-None-clause-cause
 returns-in-None-clause-cause c =
     let g = c.args.self.now in
     let mid : Gate = record g { agent = c.take.new.self } in
-    on_ok c.begin.result _ _ (cause_of c.args.now g mid c.in_ok-message.message.digest (sha256 c.args.datagram.now) refl refl c.in_ok-message.ensures.digest.own) c.begin.ensures.cause
+    let m = c.in_ok-message.message in
+    let accepts = subst (λ (x : Given). Outcome (taker_of g.agent) g.agent.users (c.args.now / 1000) c.args.datagram.now (Ok x)) (sym c.in_ok-message.ensures.is.1) c.in-Ok.ensures.takes.0 in
+    on_ok c.begin.result _ _ (cause_of c.args.now g mid (record { devices = refl; limits = refl; requests = refl; sets = refl }) (AsksIn m) (IsGivenIn g.agent c.args.now c.args.datagram.now) (λ context in_it. (m, accepts, in_it))
+    m.digest (sha256 c.args.datagram.now) c.in_ok-message.ensures.digest.own) c.begin.ensures.cause
 
 pub returns-in-Err-2-clause-untaken : goal.returns-in-Err-2-clause-untaken
 returns-in-Err-2-clause-untaken c untaken = absurd untaken

@@ -12,6 +12,7 @@ use Rattle.snmp_gate.specs.declared.work.OpenRequest.{OpenRequest}
 use Rattle.snmp_gate.specs.declared.work.Work.{Work}
 use Rattle.snmp_gate.specs.declared.work.Work.TheVariants.{Open, Ends}
 use Rattle.snmp_gate.proofs.Causing.{causes_after}
+use Rattle.snmp_gate.proofs.Shares.{says_no_other}
 use Rattle.snmp_gate.proofs.Bounded.{agent_same, asks_set, bounded_set, ended_few, fresh_timely, same_timely, stays_of, stays_requests}
 use Rattle.snmp_gate.proofs.GroupSteps.{on_err}
 use Rattle.snmp_gate.proofs.Histories.{answered_all}
@@ -106,7 +107,7 @@ returns-clause-stays c =
     let within = c.in-Some-place_of.ensures.place.within in
     let a = c.index_mut.result.now in
     stays_of g _ (agent_same g.agent g.agent refl) refl refl
-    (bounded_set g.limits g.requests _ refl refl place r s within c.index_mut-request.ensures.value refl refl
+    (bounded_set g.limits g.requests _ refl refl place r s within c.index_mut-request.ensures.value refl refl c.in_ok-fault.ensures.device
     (timely_set g.limits rs place r s within c.index_mut-request.ensures.value (λ was. fresh_timely g.limits w c.in_ok-fault.ensures.fresh)))
     (asks_set g.devices.list.items g.asks.items c.args.device a c.end.new.self c.in-Some-place_of.ensures.asks c.index_mut.ensures.value c.end.ensures.at_once (ended_few a c.end.new.self c.in-Some-place_of.id c.end.result c.end.ensures.ended c.end.ensures.at_once))
 
@@ -120,7 +121,7 @@ returns-in_err-fault-clause-stays c =
     let s : WaitingRequest WaitingMessage Work = record { number = r.number; first = r.first; others = r.others; work = w } in
     let within = c.in-Some-place_of.ensures.place.within in
     stays_requests g _ (agent_same g.agent g.agent refl) refl refl refl
-    (bounded_set g.limits g.requests _ refl refl place r s within c.index_mut-request.ensures.value refl refl
+    (bounded_set g.limits g.requests _ refl refl place r s within c.index_mut-request.ensures.value refl refl (says_no_other r.work w c.in_err-fault.ensures.err)
     (timely_set g.limits rs place r s within c.index_mut-request.ensures.value (same_timely g.limits r.work w c.in_err-fault.ensures.err)))
 
 pub returns-clause-fits : goal.returns-clause-fits
