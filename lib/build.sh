@@ -73,7 +73,7 @@ for test in calls manager_calls gate_calls forward_calls bindings keys exchange 
     $cc "$@" -Wl,--wrap=malloc,--wrap=realloc "$here/tests/$test.c" $checks $library -o "$out/$test"
 done
 parts=
-for part in community lines sockets waiting; do parts="$parts $out/gate_$part.o"; done
+for part in community lines sockets; do parts="$parts $out/gate_$part.o"; done
 $cc -I"$here/gate" "$@" -Wl,--wrap=malloc,--wrap=realloc "$here/tests/gate_parts.c" $parts $checks $library \
     -o "$out/gate_parts"
 $cc "$@" "$here/tests/fuzz.c" $library -o "$out/fuzz_inputs"

@@ -45,50 +45,21 @@ static bool take_number(struct rest *rest, uint32_t *number) {
     return true;
 }
 
-/* How many bindings a list has, and the name of its first. */
-static bool take_names(struct rest list, struct pdu *pdu) {
-    struct rest binding, name;
-    for (pdu->names = 0; list.len; pdu->names++) {
-        if (!take(&list, SEQUENCE, &binding) || !take(&binding, OBJECT_IDENTIFIER, &name)) return false;
-        if (!pdu->names) { pdu->first = name.at; pdu->first_len = name.len; }
-    }
-    return true;
-}
-
-/* The PDU but for its bindings, and these. */
-static bool take_pdu(struct rest rest, struct pdu *pdu, struct rest *list) {
+/* The bindings of the PDU. */
+static bool take_bindings(struct rest rest, struct rest *list) {
     struct rest message, community, inner;
-    uint32_t version;
-    *pdu = (struct pdu){0};
-    return take(&rest, SEQUENCE, &message) && take_number(&message, &version)
+    uint32_t number;
+    uint8_t tag;
+    return take(&rest, SEQUENCE, &message) && take_number(&message, &number)
         && take(&message, OCTET_STRING, &community)
-        && take_any(&message, &pdu->tag, &inner) && take_number(&inner, &pdu->request_id)
-        && take_number(&inner, &pdu->status)
-        && take_number(&inner, &pdu->index) && take(&inner, SEQUENCE, list);
-}
-
-bool pdu_of(const uint8_t *datagram, size_t len, struct pdu *pdu) {
-    struct rest list;
-    if (!take_pdu((struct rest){datagram, len}, pdu, &list)) return false;
-    pdu->list = list.at;
-    pdu->list_len = list.len;
-    return take_names(list, pdu);
-}
-
-bool name_of(const uint8_t *list, size_t list_len, size_t number, const uint8_t **name, size_t *name_len) {
-    struct rest rest = {list, list_len}, binding, content;
-    for (size_t i = 0; i < number; i++)
-        if (!take(&rest, SEQUENCE, &binding)) return false;
-    if (!number || !take(&binding, OBJECT_IDENTIFIER, &content)) return false;
-    *name = content.at;
-    *name_len = content.len;
-    return true;
+        && take_any(&message, &tag, &inner) && take_number(&inner, &number)
+        && take_number(&inner, &number)
+        && take_number(&inner, &number) && take(&inner, SEQUENCE, list);
 }
 
 bool trap_oid_of(const uint8_t *datagram, size_t len, const uint8_t **oid, size_t *oid_len) {
     struct rest list, first, second, name, value;
-    struct pdu pdu;
-    if (!take_pdu((struct rest){datagram, len}, &pdu, &list) || !take(&list, SEQUENCE, &first)
+    if (!take_bindings((struct rest){datagram, len}, &list) || !take(&list, SEQUENCE, &first)
         || !take(&list, SEQUENCE, &second)
         || !take(&second, OBJECT_IDENTIFIER, &name) || !take(&second, OBJECT_IDENTIFIER, &value))
         return false;

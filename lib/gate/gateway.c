@@ -4,7 +4,6 @@
 #include "files.h"
 #include "lines.h"
 #include "sockets.h"
-#include "waiting.h"
 #include <errno.h>
 #include <fcntl.h>
 #include <grp.h>
@@ -334,7 +333,6 @@ static void replace_gate(struct gateway *gateway, snmpsec_gate *gate, uint32_t b
     gateway->boots = boots;
     snmpsec_gate_free(gateway->gate);
     gateway->gate = gate;
-    waiting_clear();
     (void)watch_devices(gateway);
 }
 
@@ -390,5 +388,4 @@ void gateway_close(struct gateway *gateway) {
     close_devices(gateway->devices, &gateway->devices_len);
     if (gateway->log >= 0) close(gateway->log);
     free(gateway->boots_path);
-    waiting_clear();
 }

@@ -12,9 +12,8 @@
 
 enum { MOST_A_SECOND = 10 };
 static const char *const kinds[LINE_KINDS] = {"refused", "unhandled", "set", "given up", "device", "status", "dropped",
-                                              "unanswered", "file",
-                                              "notified", "acknowledged", "not notified", "receiver", "misfit",
-                                              "rounds", "lost"};
+                                              "unanswered", "misfit", "rounds", "file",
+                                              "notified", "acknowledged", "not notified", "receiver", "lost"};
 static struct { uint64_t second, written, left_out; } of_kind[LINE_KINDS];
 /* standard error as an open file of our own, which doesn't wait, or -1; lines that nobody read, since the last line and
  * in all; and whether the last line is cut */

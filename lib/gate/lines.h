@@ -7,10 +7,11 @@
 #include <stddef.h>
 #include <stdint.h>
 
+/* first those of snmpsec_line, by the numbers of their bits */
 enum line_kind {
     LINE_REFUSED, LINE_UNHANDLED, LINE_SET, LINE_GIVEN_UP, LINE_DEVICE, LINE_STATUS, LINE_DROPPED, LINE_UNANSWERED,
-    LINE_FILE,
-    LINE_NOTIFIED, LINE_ACKNOWLEDGED, LINE_NOT_NOTIFIED, LINE_RECEIVER, LINE_MISFIT, LINE_ROUNDS, LINE_LOST, LINE_KINDS
+    LINE_MISFIT, LINE_ROUNDS, LINE_FILE,
+    LINE_NOTIFIED, LINE_ACKNOWLEDGED, LINE_NOT_NOTIFIED, LINE_RECEIVER, LINE_LOST, LINE_KINDS
 };
 
 /* From here on what is written on standard error isn't waited for: a line that can't be written at once is dropped, and

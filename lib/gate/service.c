@@ -2,7 +2,6 @@
 #include "service.h"
 #include "lines.h"
 #include "sockets.h"
-#include "waiting.h"
 #include <errno.h>
 #include <inttypes.h>
 #include <signal.h>
@@ -73,20 +72,39 @@ static void log_datagram(struct gateway *gateway, const struct words *words, uin
         line("snmpsec-gate: %s: %s: a datagram isn't logged", words->log, strerror(errno));
 }
 
-/* The user whom the datagram names: how many octets. Nobody has shown that it is the sender. */
-static size_t user_of(size_t len, uint8_t *user) {
-    size_t user_len = 0;
-    return snmpsec_datagram_user(datagram, len, user, MOST_USER, &user_len) ? 0 : user_len;
+/* The client whose message is answered, or isn't, or that asks the request that the last call was about; if there is
+ * none it stays as it was. */
+static void find_client(struct gateway *gateway, struct client *client) {
+    snmpsec_gate_info info;
+    struct client found;
+    size_t len = 0;
+    if (snmpsec_gate_client(gateway->gate, (uint8_t *)&found, sizeof found, &len)
+        && (snmpsec_gate_numbers(gateway->gate, &info)
+            || snmpsec_gate_asker(gateway->gate, info.request, (uint8_t *)&found, sizeof found, &len))) return;
+    if (len == sizeof found) *client = found;
 }
 
-/* Says what wasn't taken up. */
-static void say_client(const struct client *client, size_t len, const char *what, const char *behind) {
-    char from[ADDRESS_WORDS], words[4 * MOST_USER + 8] = "(none)";
-    uint8_t user[MOST_USER];
-    size_t user_len = user_of(len, user);
-    address_words(&client->from, from);
-    if (user_len) shown(user, user_len, words, sizeof words);
-    line("%s from %s user %s%s", what, from, words, behind);
+/* Writes the last call's line of this kind; NULL: the library knows the client. */
+static void say_one(struct gateway *gateway, snmpsec_line kind, const struct client *from, size_t len) {
+    static uint8_t text[4096];
+    char words[ADDRESS_WORDS];
+    struct client client = {0};
+    size_t text_len = 0;
+    if (from) client = *from;
+    else find_client(gateway, &client);
+    address_words(&client.from, words);
+    if (!snmpsec_gate_line(gateway->gate, kind, (const uint8_t *)words, strlen(words), datagram, len, text, sizeof text,
+                           &text_len))
+        line("%.*s", (int)text_len, (const char *)text);
+}
+
+/* Writes the lines of the last call, which took so many octets. */
+static void say(struct gateway *gateway, uint64_t now, const struct client *from, size_t len) {
+    uint32_t kinds = 0;
+    if (snmpsec_gate_lines(gateway->gate, &kinds)) return;
+    for (int kind = 0; kind < LINE_FILE; kind++)
+        if (kinds >> kind & 1 && line_has_room((enum line_kind)kind, now))
+            say_one(gateway, (snmpsec_line)(1u << kind), from, len);
 }
 
 static void send_report(struct gateway *gateway, const struct client *client) {
@@ -96,41 +114,19 @@ static void send_report(struct gateway *gateway, const struct client *client) {
     if (!send_to(&gateway->listeners[client->listener], client, message, len)) gateway->counts.unsent++;
 }
 
-/* Whether only an authentic message is refused so (RFC 3414, section 3.2, steps 7 and 8). */
-static bool is_authentic(int answer) {
-    return answer == SNMPSEC_NOT_IN_WINDOW || answer == SNMPSEC_DECRYPTION_ERROR;
-}
-
 static void take_refused(struct gateway *gateway, uint64_t now, const struct client *client, size_t len, int answer) {
-    char what[80];
     if (answer == SNMPSEC_OUT_OF_MEMORY || answer < 1 || answer > 18) { gateway->out_of_memory = true; return; }
     gateway->counts.refused[answer]++;
-    /* (by an unknown engine ID each manager begins: RFC 3414, section 4) */
-    if (answer != SNMPSEC_UNKNOWN_ENGINE && line_has_room(LINE_REFUSED, now)) {
-        snprintf(what, sizeof what, "refused %d %s", answer, snmpsec_error_name(answer));
-        say_client(client, len, what, is_authentic(answer) ? " (authenticated)" : " (not authenticated)");
-    }
+    say(gateway, now, client, len);
     send_report(gateway, client);
 }
 
-/* Keeps for lines whose a request is, and in which context it asks. */
-static void note_begun(struct gateway *gateway, const snmpsec_gate_info *info, const struct client *client,
-                       size_t len) {
-    uint8_t user[MOST_USER], context[MOST_CONTEXT];
-    size_t context_len = 0;
-    waiting_begins(info->request, client, user, user_of(len, user));
-    int answer = snmpsec_gate_context(gateway->gate, info->request, context, sizeof context, &context_len);
-    if (!answer || answer == SNMPSEC_SHORT_BUFFER) waiting_context(info->request, context, context_len);
-}
-
 /* Counts a message that begins a request, or joins one. */
-static void note_client(struct gateway *gateway, snmpsec_gate_event event, const struct client *client, size_t len) {
+static void note_client(struct gateway *gateway) {
     snmpsec_gate_info info;
     if (snmpsec_gate_numbers(gateway->gate, &info)) return;
     if (info.pdu >= SNMPSEC_GET_REQUEST && info.pdu <= SNMPSEC_REPORT_PDU)
         gateway->counts.messages[info.pdu - SNMPSEC_GET_REQUEST]++;
-    if (event == SNMPSEC_GATE_BEGINS) note_begun(gateway, &info, client, len);
-    else waiting_joins(info.request);
 }
 
 static void take_client(struct gateway *gateway, const struct words *words, const struct client *client, size_t len) {
@@ -141,102 +137,20 @@ static void take_client(struct gateway *gateway, const struct words *words, cons
                                           &event);
     if (answer) { take_refused(gateway, now, client, len, answer); return; }
     gateway->counts.events[event]++;
-    if (event == SNMPSEC_GATE_BEGINS || event == SNMPSEC_GATE_JOINS) note_client(gateway, event, client, len);
-    if (event == SNMPSEC_GATE_NO_ROOM && line_has_room(LINE_DROPPED, now))
-        say_client(client, len, "no room for a message", "");
-    if (event == SNMPSEC_GATE_SET_OF_BEFORE && line_has_room(LINE_SET, now))
-        say_client(client, len, "a repeated Set", ": its outcome isn't known, and it isn't done again");
+    if (event == SNMPSEC_GATE_BEGINS || event == SNMPSEC_GATE_JOINS) note_client(gateway);
+    say(gateway, now, client, len);
 }
 
-/* Says how a Set ended, of which the device is asked once. */
-static void say_set(const struct device *device, const struct waiting *request, const char *how) {
-    char asker[ASKER_WORDS], asked[ASKED_WORDS];
-    asker_words(request, asker);
-    asked_words(request, asked);
-    line("%s by %s at device %s: %s", asked, asker, device->words, how);
-}
-
-static bool is_set(const struct waiting *request) {
-    return request && request->times && request->tag == SNMPSEC_SET_REQUEST;
-}
-
-static bool is_of_access(uint32_t status) {
-    return status == SNMPSEC_NO_ACCESS || status == SNMPSEC_AUTHORIZATION_ERROR;
-}
-
-/* Says an error-status of a device. By tooBig a GetBulk is asked for less, as by any device; and a Set has its line. */
-static void say_status(uint64_t now, const struct device *device, const struct waiting *request, uint32_t status,
-                       const char *how) {
-    char asker[ASKER_WORDS], asked[ASKED_WORDS];
-    bool is_refused_set = is_set(request) && is_of_access(status);
-    if (status <= 1 || (is_set(request) && !is_refused_set) || !line_has_room(LINE_STATUS, now)) return;
-    asker_words(request, asker);
-    asked_words(request, asked);
-    if (is_refused_set)
-        line("device %s refuses a Set, its write-community may not: %s of %s", device->words, asked, asker);
-    else line("device %s answers %s, to %s of %s", device->words, how, asked, asker);
-}
-
-static void say_answer(uint64_t now, const struct device *device, const struct waiting *request,
-                       const struct pdu *pdu) {
-    char how[80];
-    const char *name = status_name(pdu->status);
-    snprintf(how, sizeof how, "error-status %" PRIu32 " (%s), index %" PRIu32, pdu->status, name ? name : "no such one",
-             pdu->index);
-    if (is_set(request) && line_has_room(LINE_SET, now)) say_set(device, request, how);
-    say_status(now, device, request, pdu->status, how);
-}
-
-/* Why an answer doesn't fit what was asked, in words. */
-static void misfit_words(const snmpsec_gate_info *info, const struct waiting *request, const struct pdu *pdu,
-                         char *words, size_t most) {
-    const uint8_t *name = NULL, *before = NULL;
-    size_t name_len = 0, before_len = 0;
-    char shows[ASKED_WORDS], asked[ASKED_WORDS] = "what was asked";
-    (void)name_of(pdu->list, pdu->list_len, info->binding, &name, &name_len);
-    name_words(name, name_len, shows, sizeof shows);
-    if (request && waiting_asked(request, pdu, info->binding, &before, &before_len))
-        name_words(before, before_len, asked, sizeof asked);
-    switch (info->misfit) {
-    case SNMPSEC_MISFIT_TOO_FEW: snprintf(words, most, "it has %zu bindings, too few", pdu->names); return;
-    case SNMPSEC_MISFIT_TOO_MANY: snprintf(words, most, "it has %zu bindings, too many", pdu->names); return;
-    case SNMPSEC_MISFIT_OTHER_NAME:
-        snprintf(words, most, "binding %" PRIu64 " is %s, which isn't %s", info->binding, shows, asked);
-        return;
-    case SNMPSEC_MISFIT_NOT_AFTER:
-        snprintf(words, most, "binding %" PRIu64 " is %s, which isn't after %s", info->binding, shows, asked);
-        return;
-    case SNMPSEC_MISFIT_NO_VALUE:
-        snprintf(words, most, "binding %" PRIu64 ", %s, has no value that can be read", info->binding, shows);
-        return;
-    default: snprintf(words, most, "binding %" PRIu64 ", %s, has a value behind endOfMibView", info->binding, shows);
-    }
-}
-
-/* Says that an answer doesn't fit what was asked. */
-static void say_misfit(uint64_t now, const struct device *device, const snmpsec_gate_info *info,
-                       const struct waiting *request, const struct pdu *pdu) {
-    char asker[ASKER_WORDS], asked[ASKED_WORDS], why[2 * ASKED_WORDS + 60];
-    if (!line_has_room(LINE_MISFIT, now)) return;
-    asker_words(request, asker);
-    asked_words(request, asked);
-    misfit_words(info, request, pdu, why, sizeof why);
-    line("device %s answers wrongly to %s of %s: %s", device->words, asked, asker, why);
-}
-
-/* What a device's answer says, for counts and lines. */
-static void note_answer(struct gateway *gateway, uint64_t now, struct device *device, size_t len) {
+/* Counts a device's answer. */
+static void note_answer(struct gateway *gateway, struct device *device) {
     snmpsec_gate_info info;
-    struct pdu pdu;
-    if (snmpsec_gate_numbers(gateway->gate, &info) || !pdu_of(datagram, len, &pdu)) return;
-    gateway->counts.statuses[pdu.status < STATUSES ? pdu.status : STATUSES]++;
+    device->counts.answered++;
+    if (snmpsec_gate_numbers(gateway->gate, &info)) return;
+    gateway->counts.statuses[info.status < STATUSES ? info.status : STATUSES]++;
     gateway->counts.hidden_bindings += info.hidden;
-    const struct waiting *request = waiting_of(info.request);
-    if (info.misfit && info.misfit < MISFITS) {
-        gateway->counts.misfits[info.misfit]++;
-        device->counts.unfit++;
-        say_misfit(now, device, &info, request, &pdu);
-    } else if (pdu.status || is_set(request)) say_answer(now, device, request, &pdu);
+    if (!info.misfit || info.misfit >= MISFITS) return;
+    gateway->counts.misfits[info.misfit]++;
+    device->counts.unfit++;
 }
 
 static void take_device(struct gateway *gateway, size_t number, size_t len) {
@@ -248,12 +162,10 @@ static void take_device(struct gateway *gateway, size_t number, size_t len) {
         return;
     }
     gateway->counts.events[event]++;
-    if (event == SNMPSEC_GATE_ANSWERS) { device->counts.answered++; note_answer(gateway, now, device, len); return; }
-    bool is_unreadable = event == SNMPSEC_GATE_UNREADABLE;
-    *(is_unreadable ? &device->counts.unreadable : &device->counts.not_waited_for) += 1;
-    if (line_has_room(LINE_DEVICE, now))
-        line("device %s sends %s", device->words, is_unreadable ? "a datagram that isn't a Response of SNMPv2c"
-             : "an answer for which nothing waits");
+    if (event == SNMPSEC_GATE_ANSWERS) note_answer(gateway, device);
+    if (event == SNMPSEC_GATE_UNREADABLE) device->counts.unreadable++;
+    if (event == SNMPSEC_GATE_NOT_WAITED_FOR) device->counts.not_waited_for++;
+    say(gateway, now, NULL, len);
 }
 
 /* A device that is off answers by ICMP: that is an error of its socket, and the device is asked again as if nothing had
@@ -304,92 +216,31 @@ bool send_connected(int socket, const uint8_t *octets, size_t len) {
 }
 
 static void send_device(struct gateway *gateway, const snmpsec_gate_info *info, size_t len) {
-    struct pdu pdu;
     if (info->device >= gateway->devices_len) { gateway->counts.unsent++; return; }
     struct device *device = &gateway->devices[info->device];
-    if (pdu_of(message, len, &pdu)) waiting_asks(info->request, &pdu, info->again);
     *(info->again ? &device->counts.asked_again : &device->counts.asked) += 1;
     if (!send_connected(device->socket, message, len)) gateway->counts.unsent++;
 }
 
-static void take_given_up(struct gateway *gateway, uint64_t now, const snmpsec_gate_info *info) {
-    char asker[ASKER_WORDS], asked[ASKED_WORDS];
-    if (info->device >= gateway->devices_len) return;
-    struct device *device = &gateway->devices[info->device];
-    struct waiting *request = waiting_of(info->request);
-    device->counts.given_up++;
-    if (is_set(request)) {
-        if (line_has_room(LINE_SET, now)) say_set(device, request, "no answer, so it may have been done");
-    } else if (line_has_room(LINE_GIVEN_UP, now)) {
-        asker_words(request, asker);
-        asked_words(request, asked);
-        line("device %s doesn't answer: %s, %s, asked %" PRIu32 " times", device->words, asker, asked,
-             request ? request->times : 0);
-    }
-}
-
-/* The counter that counts a message that is answered, or isn't, by its name; NULL: none does. */
-static const char *counter_of(snmpsec_gate_event event, const snmpsec_gate_info *info, int why) {
-    bool is_dropped = event == SNMPSEC_GATE_UNANSWERED && info->ended != SNMPSEC_ENDED_IN_SILENCE;
-    if (why) return NULL;
-    if (info->ended != SNMPSEC_ENDED_UNHANDLED)
-        return is_dropped ? "snmpSilentDrops: even an answer without bindings is too long" : NULL;
-    switch (info->unhandled) {
-    case SNMPSEC_UNKNOWN_PDU_HANDLERS: return "snmpUnknownPDUHandlers";
-    case SNMPSEC_UNAVAILABLE_CONTEXTS: return "snmpUnavailableContexts";
-    case SNMPSEC_UNKNOWN_CONTEXTS: return "snmpUnknownContexts";
-    default: return NULL;
-    }
-}
-
-/* What a Response says, or that it is a Report, for counts and lines. */
-static void note_response(struct gateway *gateway, uint64_t now, const snmpsec_gate_info *info,
-                          struct waiting *request) {
-    char asker[ASKER_WORDS], asked[ASKED_WORDS];
-    const char *name = info->status < STATUSES ? status_name((uint32_t)info->status) : NULL;
+/* Counts a Response to a client, or a Report on its request. */
+static void note_response(struct gateway *gateway, const snmpsec_gate_info *info) {
     if (info->is_report) { gateway->counts.request_reports++; return; }
     gateway->counts.responses[info->status < STATUSES ? info->status : STATUSES]++;
-    if (!request) return;
-    asker_words(request, asker);
-    asked_words(request, asked);
-    if (info->ended == SNMPSEC_ENDED_REPEATED && line_has_room(LINE_SET, now))
-        line("a repeated Set by %s has its first answer: error-status %" PRIu64 " (%s), index %" PRIu64, asker,
-             info->status,
-             name ? name : "no such one", info->index);
-    if (info->ended != SNMPSEC_ENDED_ROUNDS_USED_UP) return;
-    gateway->counts.rounds_used_up++;
-    if (line_has_room(LINE_ROUNDS, now))
-        line("%s wants more than %" PRIu32 " rounds: %s", asker, request->rounds, asked);
+    if (info->ended == SNMPSEC_ENDED_ROUNDS_USED_UP) gateway->counts.rounds_used_up++;
 }
 
-/* One message of a request is answered, or isn't. */
-static void take_end(uint64_t now, snmpsec_gate_event event, const snmpsec_gate_info *info, int why) {
-    char asker[ASKER_WORDS], context[IN_CONTEXT_WORDS];
-    const char *counter = counter_of(event, info, why);
-    struct waiting *request = waiting_of(info->request);
-    if (counter && line_has_room(LINE_UNHANDLED, now)) {
-        asker_words(request, asker);
-        in_context_words(request, context);
-        line("unhandled, %s%s: %s", asker, context, counter);
-    }
-    if (why && line_has_room(LINE_UNANSWERED, now)) {
-        asker_words(request, asker);
-        line("a message of %s isn't answered: %s", asker, snmpsec_strerror(why));
-    }
-    waiting_ends(info->request);
-}
-
-static void take_event(struct gateway *gateway, uint64_t now, snmpsec_gate_event event, int why) {
+static void take_event(struct gateway *gateway, uint64_t now, snmpsec_gate_event event) {
     snmpsec_gate_info info;
     size_t len = 0;
     if (snmpsec_gate_numbers(gateway->gate, &info)) return;
     gateway->counts.events[event]++;
-    if (event == SNMPSEC_GATE_GIVEN_UP) take_given_up(gateway, now, &info);
+    if (event == SNMPSEC_GATE_GIVEN_UP && info.device < gateway->devices_len)
+        gateway->devices[info.device].counts.given_up++;
     bool is_message = !snmpsec_gate_message(gateway->gate, message, sizeof message, &len);
     if (is_message && event == SNMPSEC_GATE_TO_CLIENT) send_client(gateway, len);
     if (is_message && event == SNMPSEC_GATE_TO_DEVICE) send_device(gateway, &info, len);
-    if (event == SNMPSEC_GATE_TO_CLIENT) note_response(gateway, now, &info, waiting_of(info.request));
-    if (event == SNMPSEC_GATE_TO_CLIENT || event == SNMPSEC_GATE_UNANSWERED) take_end(now, event, &info, why);
+    if (event == SNMPSEC_GATE_TO_CLIENT) note_response(gateway, &info);
+    say(gateway, now, NULL, 0);
 }
 
 /* Sends all that is due by now. */
@@ -402,7 +253,7 @@ static void send_due(struct gateway *gateway, uint64_t now) {
             return;
         }
         if (event == SNMPSEC_GATE_NOTHING) return;
-        take_event(gateway, now, event, why);
+        take_event(gateway, now, event);
     }
 }
 

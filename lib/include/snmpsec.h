@@ -550,13 +550,33 @@ SNMPSEC_CHECK int snmpsec_gate_next(snmpsec_gate *gate, uint64_t now, uint64_t s
                                     snmpsec_gate_event *event, int *why);
 /* The moment from which on _next has something to do by time alone: SNMPSEC_NOTHING_TAKEN: there is none. */
 SNMPSEC_CHECK int snmpsec_gate_due(snmpsec_gate *gate, uint64_t *at);
-/* The datagram that is to be sent, and the client to whom: SNMPSEC_NOTHING_TAKEN, SNMPSEC_SHORT_BUFFER. */
+/* The datagram that is to be sent; and the client whose message is answered, or isn't: SNMPSEC_NOTHING_TAKEN,
+ * SNMPSEC_SHORT_BUFFER. */
 SNMPSEC_CHECK int snmpsec_gate_message(snmpsec_gate *gate, uint8_t *out, size_t out_len, size_t *written);
 SNMPSEC_CHECK int snmpsec_gate_client(snmpsec_gate *gate, uint8_t *out, size_t out_len, size_t *written);
-/* The contextName in which the messages of a request that waits ask, by its number: SNMPSEC_NOTHING_TAKEN: no such
- * request waits; SNMPSEC_SHORT_BUFFER, and *written says how much is wanted; SNMPSEC_OUT_OF_MEMORY. */
-SNMPSEC_CHECK int snmpsec_gate_context(snmpsec_gate *gate, uint64_t request, uint8_t *out, size_t out_len,
-                                       size_t *written);
+/* The client that asks a request that waits, by its number: SNMPSEC_NOTHING_TAKEN: no such request waits;
+ * SNMPSEC_SHORT_BUFFER, and *written says how much is wanted. */
+SNMPSEC_CHECK int snmpsec_gate_asker(snmpsec_gate *gate, uint64_t request, uint8_t *out, size_t out_len,
+                                     size_t *written);
+
+/* The kinds of lines that a log may have of a call on a gateway, each a bit. */
+typedef enum snmpsec_line {
+    /* a client's datagram is refused; no application answers; a Set that is done, or isn't done again; a device doesn't
+     * answer */
+    SNMPSEC_LINE_REFUSED = 1, SNMPSEC_LINE_UNHANDLED = 2, SNMPSEC_LINE_SET = 4, SNMPSEC_LINE_GIVEN_UP = 8,
+    /* what nothing waits for; an error-status of a device; no room for a message; a message isn't answered */
+    SNMPSEC_LINE_DEVICE = 16, SNMPSEC_LINE_STATUS = 32, SNMPSEC_LINE_DROPPED = 64, SNMPSEC_LINE_UNANSWERED = 128,
+    /* an answer that doesn't fit what was asked; as many rounds as may be */
+    SNMPSEC_LINE_MISFIT = 256, SNMPSEC_LINE_ROUNDS = 512
+} snmpsec_line;
+/* The kinds of the lines that the last call has, mostly none: SNMPSEC_OK. */
+SNMPSEC_CHECK int snmpsec_gate_lines(snmpsec_gate *gate, uint32_t *kinds);
+/* One of these lines, without a line feed. It is for people, and its words may change. `client` is the client's address
+ * as a text; `datagram` is what the last call took. SNMPSEC_NOTHING_TAKEN: there is no such line; SNMPSEC_SHORT_BUFFER,
+ * and *written says how much is wanted; SNMPSEC_OUT_OF_MEMORY. */
+SNMPSEC_CHECK int snmpsec_gate_line(snmpsec_gate *gate, snmpsec_line kind, const uint8_t *client, size_t client_len,
+                                    const uint8_t *datagram, size_t datagram_len, uint8_t *out, size_t out_len,
+                                    size_t *written);
 /* Why the bindings of a device's answer don't answer what it was asked: the first of these from the left. Such a
  * request is answered genErr. */
 typedef enum snmpsec_misfit {
@@ -583,11 +603,13 @@ typedef enum snmpsec_ended {
  * message asks, an snmpsec_pdu. SNMPSEC_GATE_TO_CLIENT: error-status and error-index of the Response, or is_report is
  * 1; and how the request ended, an snmpsec_ended, as of SNMPSEC_GATE_UNANSWERED, with the snmpsec_unhandled of a
  * request that no application answers. SNMPSEC_GATE_TO_DEVICE: again is 1 if the device is asked the same again, since
- * it didn't answer. SNMPSEC_GATE_ANSWERS: why the answer doesn't fit, an snmpsec_misfit, and the number of the answer's
- * binding from 1, or 0; and how many of its bindings are hidden: the user may not read variables of their names. Of an
- * answer to a Set that is 0. */
+ * it didn't answer. SNMPSEC_GATE_GIVEN_UP: how often it was asked. SNMPSEC_GATE_ANSWERS: error-status and error-index
+ * of the answer, and 4294967295 for one below 0; why the answer doesn't fit, an snmpsec_misfit, and the number of the
+ * answer's binding from 1, or 0; and how many of its bindings are hidden: the user may not read variables of their
+ * names. Of an answer to a Set that is 0. */
 typedef struct snmpsec_gate_info {
-    uint64_t request, device, waiting, status, index, is_report, misfit, binding, hidden, pdu, ended, unhandled, again;
+    uint64_t request, device, waiting, status, index, is_report, misfit, binding, hidden, pdu, ended, unhandled, again,
+        times;
 } snmpsec_gate_info;
 SNMPSEC_CHECK int snmpsec_gate_numbers(snmpsec_gate *gate, snmpsec_gate_info *out);
 /* The agent's counters. */

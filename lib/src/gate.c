@@ -112,9 +112,26 @@ int snmpsec_gate_client(snmpsec_gate *gate, uint8_t *out, size_t out_len, size_t
         : SNMPSEC_BAD_ARGUMENT;
 }
 
-int snmpsec_gate_context(snmpsec_gate *gate, uint64_t request, uint8_t *out, size_t out_len, size_t *written) {
-    return gate && written ? proved_gate_copy(gate, PROVED_GATE_CONTEXT, 0, request, room(out, out_len), out_len,
+int snmpsec_gate_asker(snmpsec_gate *gate, uint64_t request, uint8_t *out, size_t out_len, size_t *written) {
+    return gate && written ? proved_gate_copy(gate, PROVED_GATE_ASKER, 0, request, room(out, out_len), out_len,
                                               written) : SNMPSEC_BAD_ARGUMENT;
+}
+
+int snmpsec_gate_lines(snmpsec_gate *gate, uint32_t *kinds) {
+    proved_gate_said said = {0};
+    if (!gate || !kinds) return SNMPSEC_BAD_ARGUMENT;
+    int32_t answer = ask_gate(gate, (proved_gate_asked){.call = PROVED_GATE_LINES}, &said);
+    if (!answer) *kinds = said.value;
+    return answer;
+}
+
+int snmpsec_gate_line(snmpsec_gate *gate, snmpsec_line kind, const uint8_t *client, size_t client_len,
+                      const uint8_t *datagram, size_t datagram_len, uint8_t *out, size_t out_len, size_t *written) {
+    proved_line_asked asked = {.kind = kind, .client = {client, client_len}, .datagram = {datagram, datagram_len}};
+    if (!gate || !written) return SNMPSEC_BAD_ARGUMENT;
+    fit(&asked.client);
+    fit(&asked.datagram);
+    return done_deep(proved_gate_line(gate, &asked, room(out, out_len), out_len, written));
 }
 
 int snmpsec_gate_numbers(snmpsec_gate *gate, snmpsec_gate_info *out) {
@@ -126,7 +143,8 @@ int snmpsec_gate_numbers(snmpsec_gate *gate, snmpsec_gate_info *out) {
         .request = said.info.request, .device = said.info.device, .waiting = said.info.waiting,
         .status = said.info.status, .index = said.info.index, .is_report = said.info.is_report,
         .misfit = said.info.misfit, .binding = said.info.binding, .hidden = said.info.hidden, .pdu = said.info.pdu,
-        .ended = said.info.ended, .unhandled = said.info.unhandled, .again = said.info.again};
+        .ended = said.info.ended, .unhandled = said.info.unhandled, .again = said.info.again,
+        .times = said.info.times};
     return SNMPSEC_OK;
 }
 

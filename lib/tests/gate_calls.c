@@ -133,6 +133,7 @@ static void nothing_given(void) {
     snmpsec_counters counters;
     snmpsec_counts counts;
     uint64_t at;
+    uint32_t kinds;
     size_t len;
     int why;
     snmpsec_gate_free(NULL);
@@ -144,7 +145,9 @@ static void nothing_given(void) {
     check("no gateway: due", SNMPSEC_BAD_ARGUMENT, snmpsec_gate_due(NULL, &at));
     check("no gateway: message", SNMPSEC_BAD_ARGUMENT, snmpsec_gate_message(NULL, NULL, 0, &len));
     check("no gateway: client", SNMPSEC_BAD_ARGUMENT, snmpsec_gate_client(NULL, NULL, 0, &len));
-    check("no gateway: context", SNMPSEC_BAD_ARGUMENT, snmpsec_gate_context(NULL, 0, NULL, 0, &len));
+    check("no gateway: asker", SNMPSEC_BAD_ARGUMENT, snmpsec_gate_asker(NULL, 0, NULL, 0, &len));
+    check("no gateway: lines", SNMPSEC_BAD_ARGUMENT, snmpsec_gate_lines(NULL, &kinds));
+    check("no gateway: line", SNMPSEC_BAD_ARGUMENT, snmpsec_gate_line(NULL, SNMPSEC_LINE_SET, NULL, 0, NULL, 0, NULL, 0, &len));
     check("no gateway: setting", SNMPSEC_BAD_ARGUMENT, snmpsec_gate_setting(NULL, SNMPSEC_GATE_BOOTS, 0, NULL, 0, &len));
     check("no gateway: numbers", SNMPSEC_BAD_ARGUMENT, snmpsec_gate_numbers(NULL, &info));
     check("no gateway: counters", SNMPSEC_BAD_ARGUMENT, snmpsec_gate_counters(NULL, &counters));
@@ -192,19 +195,38 @@ static const uint8_t answer[] = {
     0x30, 0x35, 2, 1, 1, 4, 5, 0x72, 0x65, 0x61, 0x64, 0x73, 0xa2, 0x29, 2, 1, 1, 2, 1, 0, 2, 1, 0, 0x30, 0x1e, 0x30, 0x0d, 6, 8, 0x2b,
     6, 1, 2, 1, 1, 1, 0, 4, 1, 0x61, 0x30, 0x0d, 6, 8, 0x2b, 6, 1, 2, 1, 1, 5, 0, 4, 1, 0x62};
 
-/* The request of this number asks in the context "pdu". */
-static void context_is(snmpsec_gate *gate, uint64_t request) {
-    uint8_t *out = fenced((const uint8_t *)"xxx", 3);
+/* The client asks the request of this number. */
+static void asker_is(snmpsec_gate *gate, uint64_t request) {
+    uint8_t *out = fenced((const uint8_t *)"xxxxxx", 6);
     size_t len = 0;
-    check("no room for its context", SNMPSEC_SHORT_BUFFER, snmpsec_gate_context(gate, request, out, 2, &len));
-    check("of three octets", 3, (long long)len);
-    check("nothing is written", 0, memcmp(out, "xxx", 3));
-    check("its context", 0, snmpsec_gate_context(gate, request, out, 3, &len));
-    check("is that of the message", 0, memcmp(out, "pdu", 3));
-    check("another request's", SNMPSEC_NOTHING_TAKEN, snmpsec_gate_context(gate, request + 1, out, 3, &len));
+    check("no room for its client", SNMPSEC_SHORT_BUFFER, snmpsec_gate_asker(gate, request, out, 5, &len));
+    check("of six octets", 6, (long long)len);
+    check("nothing is written", 0, memcmp(out, "xxxxxx", 6));
+    check("its client", 0, snmpsec_gate_asker(gate, request, out, 6, &len));
+    check("is that of the message", 0, memcmp(out, "client", 6));
+    check("another request's", SNMPSEC_NOTHING_TAKEN, snmpsec_gate_asker(gate, request + 1, out, 6, &len));
+}
+
+/* The last call has a line on its device's answer, and no other. */
+static void line_is(snmpsec_gate *gate) {
+    static const char wanted[] = "device pdu answers wrongly to get 1.3.6.1.2.1.1.1.0 of user ann from 192.0.2.9:7: it has 2 bindings, too many";
+    enum { LONG = sizeof wanted - 1 };
+    uint8_t *out = fenced((const uint8_t *)wanted, LONG);
+    uint32_t kinds = 0;
+    size_t len = 0;
+    memset(out, 'x', LONG);
+    check("its lines", 0, snmpsec_gate_lines(gate, &kinds));
+    check("are of one kind", SNMPSEC_LINE_MISFIT, (long long)kinds);
+#define LINE(kind, room) snmpsec_gate_line(gate, kind, (const uint8_t *)"192.0.2.9:7", 11, answer, sizeof answer, out, room, &len)
+    check("there is no other", SNMPSEC_NOTHING_TAKEN, LINE(SNMPSEC_LINE_SET, LONG));
+    check("no room for it", SNMPSEC_SHORT_BUFFER, LINE(SNMPSEC_LINE_MISFIT, LONG - 1));
+    check("which has so many octets", LONG, (long long)len);
+    check("nothing is written", 'x', out[0]);
     left = 0;
-    check("without memory", SNMPSEC_OUT_OF_MEMORY, snmpsec_gate_context(gate, request, out, 3, &len));
+    check("without memory", SNMPSEC_OUT_OF_MEMORY, LINE(SNMPSEC_LINE_MISFIT, LONG));
     left = -1;
+    check("the line", 0, LINE(SNMPSEC_LINE_MISFIT, LONG));
+    check("says why the answer doesn't fit", 0, memcmp(out, wanted, LONG));
 }
 
 /* How many bindings of a device's answer the view hides. */
@@ -226,7 +248,7 @@ static void hidden_counted(void) {
     check("joins", SNMPSEC_GATE_JOINS, event);
     check("its numbers", 0, snmpsec_gate_numbers(gate, &info));
     check("by a GetRequest too", SNMPSEC_GET_REQUEST, (long long)info.pdu);
-    context_is(gate, info.request);
+    asker_is(gate, info.request);
     check("its device", 0, snmpsec_gate_next(gate, 1000, 1, 1, &event, &why));
     check("is asked", SNMPSEC_GATE_TO_DEVICE, event);
     check("what comes from it", 0, snmpsec_gate_take_device(gate, 1000, 0, answer, sizeof answer, &event));
@@ -234,6 +256,7 @@ static void hidden_counted(void) {
     check("numbers", 0, snmpsec_gate_numbers(gate, &info));
     check("by a binding too many", SNMPSEC_MISFIT_TOO_MANY, (long long)info.misfit);
     check("which is hidden", 1, (long long)info.hidden);
+    line_is(gate);
     check("and is no client's message", 0, (long long)info.pdu);
     check("what goes out", 0, snmpsec_gate_next(gate, 1000, 2, 2, &event, &why));
     check("goes to the client", SNMPSEC_GATE_TO_CLIENT, event);
@@ -259,7 +282,7 @@ static void no_calls(void) {
     static const uint8_t none[16];
     static const uint32_t no_arcs[4];
     const proved_octets octets = {none, 0};
-    const proved_gate_asked asked = {.call = PROVED_GATE_COUNT + 1, .client = octets, .datagram = octets, .arcs = {no_arcs, 0}};
+    const proved_gate_asked asked = {.call = PROVED_GATE_LINES + 1, .client = octets, .datagram = octets, .arcs = {no_arcs, 0}};
     proved_gate_said said = {.event = 7, .why = 7};
     snmpsec_gate *gate;
     uint8_t out[1] = {7};

@@ -40,9 +40,9 @@ answers_wrongly() {
 test_lines_of_misfits() {
     answers_wrongly fewer "get $system.1.0 and 1 more of $asker: it has 1 bindings, too few" get $system.1.0 $system.2.0
     answers_wrongly more "get $system.1.0 of $asker: it has 2 bindings, too many" get $system.1.0
-    answers_wrongly same "get $system.1.0 and 1 more of $asker: binding 2 is $system.1.0, which isn't $system.2.0" get \
+    answers_wrongly same "get $system.1.0 and 1 more of $asker: binding 2 is $system.1.0, which isn't what was asked" get \
         $system.1.0 $system.2.0
-    answers_wrongly same "getnext $system.3 of $asker: binding 1 is $system.3, which isn't after $system.3" get_next \
+    answers_wrongly same "getnext $system.3 of $asker: binding 1 is $system.3, which isn't after what was asked" get_next \
         $system.3
     answers_wrongly misspelled \
         "get $system.1.0 and 1 more of $asker: binding 2, $system.2.0, has no value that can be read" get $system.1.0 \

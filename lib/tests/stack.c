@@ -155,6 +155,14 @@ static void gate_next(void) {
     id++;
     answer = snmpsec_gate_next(gate, NOW * 1000, id, id, &event, &why);
 }
+static void gate_line(void) {
+    static uint8_t line[1024];
+    uint32_t kinds = 0;
+    size_t written = 0;
+    answer = snmpsec_gate_lines(gate, &kinds);
+    for (uint32_t kind = 1; kind && !answer; kind <<= 1)
+        if (kinds & kind) answer = snmpsec_gate_line(gate, kind, (const uint8_t *)"192.0.2.9:7", 11, message, len, line, sizeof line, &written);
+}
 static void gate_free(void) { snmpsec_gate_free(gate); answer = 0; }
 
 /* What a device is asked, as its Response: the names with what follows them, which is an error. */
@@ -173,6 +181,7 @@ static int one_request(void) {
         if (snmpsec_gate_message(gate, message, sizeof message, &len)) return 1;
         answer_of_device();
         measure("gate_take_device", gate_take_device, SNMPSEC_DEEP_STACK);
+        measure("gate_line", gate_line, SNMPSEC_DEEP_STACK);
         measure("gate_next to the client", gate_next, SNMPSEC_DEEP_STACK);
     }
     return event != SNMPSEC_GATE_TO_CLIENT;

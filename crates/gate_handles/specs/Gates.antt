@@ -66,7 +66,7 @@ pub record GateHeld : Type 0 where
   -- the request and the device that the last call was about, if it was about one
   pub request : ℕ
   pub device : ℕ
-  -- the datagram that is to be sent, and the client to whom
+  -- the datagram that is to be sent, and the client whose message is answered, or isn't
   pub message : Option (List ℕ)
   pub client : Option (List ℕ)
   -- what the last call tells besides its event
@@ -251,13 +251,13 @@ TakesClient old now from datagram told new = KeepsSaid old new
 -- ---- what comes from a device
 
 abbrev pub TellsDevice : DeviceTaken → Result GateEvent CallFault → GateHeld → Type 0
-TellsDevice (device.Answers number fault hidden) told new = (told ≡ Ok event.Answers) × (new.request ≡ number)
-    × Leaves new None None (note.Answer fault hidden)
+TellsDevice (device.Answers number says fault hidden) told new = (told ≡ Ok event.Answers) × (new.request ≡ number)
+    × Leaves new None None (note.Answer says fault hidden)
 TellsDevice device.NotWaitedFor told new = (told ≡ Ok event.NotWaitedFor) × IsQuiet new
 TellsDevice device.Unreadable told new = (told ≡ Ok event.Unreadable) × IsQuiet new
 
 -- The datagram is taken as the gateway promises. It is unreadable only if it is no device's answer, and the agent
--- counts nothing.
+-- counts nothing. Its device is reported.
 pub record TookDevice (old : GateHeld) (now number : ℕ) (datagram : List ℕ) (told : Result GateEvent CallFault)
     (new : GateHeld) : Type 0 where
   pub taken : DeviceTaken
@@ -268,6 +268,7 @@ pub record TookDevice (old : GateHeld) (now number : ℕ) (datagram : List ℕ) 
   pub unreadable : taken ≡ device.Unreadable → (community : List ℕ) (p : PduParts)
       → ¬ IsDeviceAnswer datagram community p
   pub counted : new.gate.agent ≡ old.gate.agent
+  pub device_is : new.device ≡ number
 
 abbrev pub TakesDevice : GateHeld → ℕ → ℕ → List ℕ → Result GateEvent CallFault → GateHeld → Type 0
 TakesDevice old now number datagram told new = KeepsSaid old new
@@ -277,13 +278,13 @@ TakesDevice old now number datagram told new = KeepsSaid old new
 
 abbrev pub TellsSent : Sent → Result GateEvent CallFault → GateHeld → Type 0
 TellsSent (out.ToClient number to says datagram ended) told new = (told ≡ Ok event.ToClient) × (new.request ≡ number)
-    × Leaves new (Some to.items) (Some datagram.items) (note_to says ended)
+    × Leaves new (Some to.client.items) (Some datagram.items) (note_to says ended)
 TellsSent (out.ToDevice number to datagram again) told new = (told ≡ Ok event.ToDevice) × (new.request ≡ number)
     × (new.device ≡ to) × Leaves new None (Some datagram.items) (note.Asked again)
-TellsSent (out.Unanswered number why ended) told new = (told ≡ Ok (event.Unanswered why)) × (new.request ≡ number)
-    × Leaves new None None (note.Unanswered ended)
-TellsSent (out.GivenUp number to) told new = (told ≡ Ok event.GivenUp) × (new.request ≡ number) × (new.device ≡ to)
-    × IsQuiet new
+TellsSent (out.Unanswered number to why ended) told new = (told ≡ Ok (event.Unanswered why)) × (new.request ≡ number)
+    × Leaves new (Some to.client.items) None (note.Unanswered ended)
+TellsSent (out.GivenUp number to times) told new = (told ≡ Ok event.GivenUp) × (new.request ≡ number)
+    × (new.device ≡ to) × Leaves new None None (note.GivenUp times)
 TellsSent out.Nothing told new = (told ≡ Ok event.Nothing) × IsQuiet new
 
 -- What goes out is what the gateway promises, and the agent counts it. There is nothing only if no request has ended,

@@ -2,8 +2,9 @@
 --
 -- `note_to`: of a datagram to a client. `tells_note`: error-status and error-index of the Response (RFC 3416, section
 -- 3), or that it is a Report, and how the request ended (`ends_so`); whether a device is asked the same again; of a
--- device's answer the number of what doesn't fit, that of the answer's binding, which counts from 1, and how many of
--- its bindings are hidden; of a client's message the tag of its PDU.
+-- device's answer its error-status and error-index, the number of what doesn't fit, that of the answer's binding, which
+-- counts from 1, and how many of its bindings are hidden; of a client's message the tag of its PDU; and how often a
+-- device was asked that is given up.
 use Rattle.std.specs.Prelude.{◌+◌, ◌-◌, ◌^◌, ℕ, ℤ, pos, negsuc, min, true, Option, Some, None}
 use Rattle.snmp_walk.specs.declared.answer.AnswerFault.{AnswerFault}
 use Rattle.snmp_walk.specs.declared.answer.AnswerFault.TheVariants.{AtBinding, TooFew, TooMany}
@@ -27,10 +28,10 @@ abbrev pub tag_number : Option ℕ → ℕ
 tag_number (Some tag) = tag
 tag_number None = 0
 
--- the number, or 0 if it is below 0
+-- the number, or 4294967295 if it is below 0
 abbrev pub natural : ℤ → ℕ
 natural (pos n) = n
-natural (negsuc n) = 0
+natural (negsuc n) = 2 ^ 32 - 1
 
 -- the number of a binding that counts from 0, counted from 1: a number of 64 bits
 abbrev pub binding_number : ℕ → ℕ
@@ -76,5 +77,11 @@ tells_note about (note.Response says e) =
 tells_note about (note.Report e) = ends_so (record about { is_report = true }) e
 tells_note about (note.Unanswered e) = ends_so about e
 tells_note about (note.Asked again) = record about { again = again }
-tells_note about (note.Answer fault hidden) =
-    record about { misfit = (fault_numbers fault).0; binding = (fault_numbers fault).1; hidden = hidden }
+tells_note about (note.GivenUp times) = record about { times = times }
+tells_note about (note.Answer says fault hidden) = record about {
+  status = natural says.status;
+  index = natural says.index;
+  misfit = (fault_numbers fault).0;
+  binding = (fault_numbers fault).1;
+  hidden = hidden;
+}

@@ -1,8 +1,8 @@
--- What a caller gets of a gateway: what its configuration says, the context of a request, its numbers and counters, why
+-- What a caller gets of a gateway: what its configuration says, the client of a request, its numbers and counters, why
 -- a configuration is refused, and the user of a datagram.
 --
--- `ReadsSetting`, `IsSetting`: a text that the configuration says. `ReadsContext`: the context in which a request's
--- messages ask. `MayNotify`: whether a receiver may be notified of a variable. `info_of`: what the last call was about
+-- `ReadsSetting`, `IsSetting`: a text that the configuration says. `ReadsAsker`: the address of the client that asks
+-- a request. `MayNotify`: whether a receiver may be notified of a variable. `info_of`: what the last call was about
 -- (`about`), and what it told. `CountsOf`: a counter of the agent. `TellsGate`: why a text is refused as a
 -- configuration. `CopiesUser`: the user that a datagram names.
 use Rattle.std.specs.Prelude.{◌≡◌, ◌<◌, ◌≤◌, ◌⊎◌, ⊤, ℕ, List}
@@ -17,7 +17,8 @@ use Rattle.snmp_message.specs.Security.{SecText, Fields}
 use Rattle.snmp_message.specs.declared.refusal.Refusal.{Refusal}
 use Rattle.snmp_message.specs.declared.refusal.Refusal.TheVariants.{OutOfMemory}
 use Rattle.snmp_agent.specs.RefusalCounters.{counter_at}
-use Rattle.snmp_gate.specs.RequestTags.{TellsContext}
+use Rattle.snmp_gate.specs.RequestTags.{IsMessageOf, IsNumberOfNone}
+use Rattle.snmp_gate.specs.declared.waiting_message.WaitingMessage.{WaitingMessage}
 use Rattle.snmpsec_gate_config.specs.Oddities.{TellsOddity, oddity_words}
 use Rattle.snmpsec_gate_config.specs.Refusals.{RefusesText, SaysSound, refusal_line}
 use Rattle.snmpsec_gate_config.specs.Told.{IsWhy}
@@ -93,13 +94,12 @@ ReadsSetting held which position out out_new written written_new told =
 
 -- ---- a request
 
--- The contextName in which the messages of the request with this number ask is copied, if it waits; or there is no
--- memory for it.
-abbrev pub ReadsContext : GateHeld → ℕ → List ℕ → List ℕ → ℕ → ℕ → Result ⊤ CallFault → Type 0
-ReadsContext held number out out_new written written_new told =
-    ((context : Option (List ℕ)) × TellsContext held.gate.requests.list.items number context
-    × CopiesMessage context out out_new written written_new told)
-    ⊎ ((told ≡ Err (Refused OutOfMemory)) × CopiesNothing out out_new written written_new)
+-- The address of the client that asks the request with this number is copied, if it waits.
+abbrev pub ReadsAsker : GateHeld → ℕ → List ℕ → List ℕ → ℕ → ℕ → Result ⊤ CallFault → Type 0
+ReadsAsker held number out out_new written written_new told = (message : Option WaitingMessage)
+    × MatchOption message (IsNumberOfNone held.gate.requests.list.items number)
+    (IsMessageOf held.gate.requests.list.items number)
+    × CopiesMessage (option_map (λ m. m.client.items) message) out out_new written written_new told
 
 -- ---- who may be notified
 
@@ -131,6 +131,7 @@ about held = record {
   unhandled = 0;
   is_report = false;
   again = false;
+  times = 0;
 }
 
 -- the same with what it told

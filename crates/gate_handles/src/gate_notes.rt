@@ -6,6 +6,7 @@ ghost use Rattle.gate_handles.specs.Gates.{LeavesRequest, TellsDevice, TellsSent
 
 use crate::event::GateEvent;
 use crate::handle::GateHandle;
+use crate::last::Last;
 use crate::note::GateNote;
 use snmp_gate::{ClientTaken, DeviceTaken, Sent};
 use snmp_handles::CallFault;
@@ -18,6 +19,7 @@ impl GateHandle {
         ensures keeps { KeepsSaid self.old self.new }
         ensures gate { self.new.gate ≡ self.old.gate }
     {
+        self.last = Last::of_client(&taken);
         match taken {
             ClientTaken::Refused(refused) => {
                 self.message = refused.report;
@@ -51,17 +53,20 @@ impl GateHandle {
     pub(crate) fn took_device(&mut self, taken: DeviceTaken) -> GateEvent
         requires { IsQuiet self.old }
         ensures tells { TellsDevice taken (Ok result) self.new }
+        ensures device { self.new.device ≡ self.old.device }
         ensures keeps { KeepsSaid self.old self.new }
         ensures gate { self.new.gate ≡ self.old.gate }
     {
+        self.last = Last::of_device(taken);
         match taken {
             DeviceTaken::Answers {
                 number,
+                says,
                 fault,
                 hidden,
             } => {
                 self.request = number;
-                self.note = GateNote::Answer(fault, hidden);
+                self.note = GateNote::Answer(says, fault, hidden);
                 GateEvent::Answers
             }
             DeviceTaken::NotWaitedFor => GateEvent::NotWaitedFor,
@@ -76,16 +81,17 @@ impl GateHandle {
         ensures keeps { KeepsSaid self.old self.new }
         ensures gate { self.new.gate ≡ self.old.gate }
     {
+        self.last = Last::of_sent(&sent);
         match sent {
             Sent::ToClient {
                 number,
-                client,
+                message: answered,
                 says,
                 datagram,
                 ended,
             } => {
                 self.request = number;
-                self.client = Some(client);
+                self.answered = Some(answered);
                 self.note = GateNote::to_client(says, ended);
                 self.message = Some(datagram);
                 GateEvent::ToClient
@@ -95,24 +101,56 @@ impl GateHandle {
                 device,
                 datagram,
                 again,
+            } => self.note_asked(number, device, datagram, again),
+            Sent::Unanswered {
+                number,
+                message,
+                why,
+                ended,
             } => {
                 self.request = number;
-                self.device = device;
-                self.note = GateNote::Asked(again);
-                self.message = Some(datagram);
-                GateEvent::ToDevice
-            }
-            Sent::Unanswered { number, why, ended } => {
-                self.request = number;
+                self.answered = Some(message);
                 self.note = GateNote::Unanswered(ended);
                 GateEvent::Unanswered(why)
             }
-            Sent::GivenUp { number, device } => {
-                self.request = number;
-                self.device = device;
-                GateEvent::GivenUp
-            }
+            Sent::GivenUp {
+                number,
+                device,
+                times,
+            } => self.note_given_up(number, device, times),
             Sent::Nothing => GateEvent::Nothing,
         }
+    }
+    /// Returns what is reported of a device that is asked.
+    fn note_asked(
+        &mut self,
+        number: u64,
+        device: usize,
+        datagram: Vec<u8>,
+        again: bool,
+    ) -> GateEvent
+        requires { IsQuiet self.old }
+        ensures tells { TellsSent (Sent.ToDevice number device datagram again) (Ok result) self.new }
+        ensures keeps { KeepsSaid self.old self.new }
+        ensures gate { self.new.gate ≡ self.old.gate }
+    {
+        self.request = number;
+        self.device = device;
+        self.note = GateNote::Asked(again);
+        self.message = Some(datagram);
+        GateEvent::ToDevice
+    }
+
+    /// Returns what is reported of a device that is given up.
+    fn note_given_up(&mut self, number: u64, device: usize, times: u32) -> GateEvent
+        requires { IsQuiet self.old }
+        ensures tells { TellsSent (Sent.GivenUp number device times) (Ok result) self.new }
+        ensures keeps { KeepsSaid self.old self.new }
+        ensures gate { self.new.gate ≡ self.old.gate }
+    {
+        self.request = number;
+        self.device = device;
+        self.note = GateNote::GivenUp(times);
+        GateEvent::GivenUp
     }
 }

@@ -7,18 +7,20 @@ ghost use Rattle.snmp_handles.specs.Parts.{CopiesMessage};
 ghost use Rattle.gate_handles.specs.Gates.{MakesGate, Empties, IsGateDue};
 ghost use Rattle.gate_handles.specs.Gates.{TakesClient, TakesDevice, SendsNext};
 ghost use Rattle.gate_handles.specs.Gates.{ReadsGate};
-ghost use Rattle.gate_handles.specs.Told.{CountsOf, MayNotify, ReadsContext, ReadsSetting, info_of};
+ghost use Rattle.gate_handles.specs.Told.{CountsOf, MayNotify, ReadsAsker, ReadsSetting, info_of};
 
 use crate::event::GateEvent;
 use crate::gate_parts::{
     SaidAccess, access_of, agent_without_users, config_of, empty_agent, empty_settings, gate_of,
     rows_of, views_of,
 };
+use crate::last::Last;
 use crate::note::{GateInfo, GateNote};
 use crate::setting::{GateText, setting_text};
+use crate::told::copied_octets;
 use snmp_agent::Agent;
 use snmp_ber::{MAX_INTEGER32, Oid};
-use snmp_gate::Gate;
+use snmp_gate::{Gate, WaitingMessage};
 use snmp_handles::{CallFault, copied_message};
 use snmp_msg::Refusal;
 use snmp_outgoing::Counter;
@@ -41,8 +43,11 @@ pub struct GateHandle {
     pub(crate) request: u64,
     pub(crate) device: usize,
     pub(crate) message: Option<Vec<u8>>,
-    pub(crate) client: Option<Vec<u8>>,
+    /// The message of a client that is answered, or isn't.
+    pub(crate) answered: Option<WaitingMessage>,
     pub(crate) note: GateNote,
+    /// What lines say, of which nothing is promised.
+    pub(crate) last: Last,
 }
 
 impl Model for GateHandle {
@@ -65,7 +70,7 @@ impl Model for GateHandle {
       request = h.request;
       device = h.device;
       message = option_map (λ v. v.items) h.message;
-      client = option_map (λ v. v.items) h.client;
+      client = option_map (λ m. m.client.items) h.answered;
       note = h.note;
     } };
 }
@@ -113,8 +118,9 @@ impl GateHandle {
             request: 0,
             device: 0,
             message: None,
-            client: None,
+            answered: None,
             note: GateNote::Nothing,
+            last: Last::Nothing,
         })
     }
 
@@ -151,8 +157,9 @@ impl GateHandle {
             request: 0,
             device: 0,
             message: None,
-            client: None,
+            answered: None,
             note: GateNote::Nothing,
+            last: Last::Nothing,
         })
     }
 
@@ -174,8 +181,9 @@ impl GateHandle {
         self.access = Vec::new(self.alloc);
         self.views = Vec::new(self.alloc);
         self.message = None;
-        self.client = None;
+        self.answered = None;
         self.note = GateNote::Nothing;
+        self.last = Last::Nothing;
         Ok(())
     }
 
@@ -193,8 +201,9 @@ impl GateHandle {
         ensures { TakesClient self.old now client.now datagram.now result self.new }
     {
         self.message = None;
-        self.client = None;
+        self.answered = None;
         self.note = GateNote::Nothing;
+        self.last = Last::Nothing;
         match self.gate.take_client(now, client, datagram) {
             Ok(taken) => self.took_client(taken),
             Err(_) => Err(NO_MEMORY),
@@ -213,8 +222,10 @@ impl GateHandle {
         ensures { TakesDevice self.old now device datagram.now result self.new }
     {
         self.message = None;
-        self.client = None;
+        self.answered = None;
         self.note = GateNote::Nothing;
+        self.last = Last::Nothing;
+        self.device = device;
         match self.gate.take_device(now, device, datagram) {
             Ok(taken) => Ok(self.took_device(taken)),
             Err(_) => Err(NO_MEMORY),
@@ -227,8 +238,9 @@ impl GateHandle {
         ensures { SendsNext self.old now (to_be_bytes w64 salt) ask_id result self.new }
     {
         self.message = None;
-        self.client = None;
+        self.answered = None;
         self.note = GateNote::Nothing;
+        self.last = Last::Nothing;
         match self.gate.next(now, salt.to_be_bytes(), ask_id) {
             Ok(sent) => Ok(self.note_sent(sent)),
             Err(_) => Err(NO_MEMORY),
@@ -250,26 +262,25 @@ impl GateHandle {
         copied_message(&self.message, out, written)
     }
 
-    /// Copies the address of the client to whom it goes, in the same way, as it was given with the client's datagram.
+    /// Copies the address of the client whose message is answered, or isn't, in the same way, as it was given with the
+    /// client's datagram.
     pub fn client(&self, out: &mut [u8], written: &mut usize) -> Result<(), CallFault>
         ensures { CopiesMessage self.now.client out.old out.new written.old written.new result }
     {
-        copied_message(&self.client, out, written)
+        match &self.answered {
+            Some(answered) => copied_octets(&answered.client, out, written),
+            None => Err(CallFault::NothingTaken),
+        }
     }
 
-    /// Copies the contextName in which the messages of the request with this number ask (RFC 3412, section 6.8), in
-    /// the same way. The errors are NothingTaken, if no such request waits, ShortBuffer, and out of memory.
-    pub fn context(
-        &self,
-        request: u64,
-        out: &mut [u8],
-        written: &mut usize,
-    ) -> Result<(), CallFault>
-        ensures { ReadsContext self.now request out.old out.new written.old written.new result }
+    /// Copies the address of the client that asks the request with this number, in the same way. The errors are
+    /// NothingTaken, if no such request waits, and ShortBuffer.
+    pub fn asker(&self, request: u64, out: &mut [u8], written: &mut usize) -> Result<(), CallFault>
+        ensures { ReadsAsker self.now request out.old out.new written.old written.new result }
     {
-        match self.gate.request_context(request) {
-            Ok(context) => copied_message(&context, out, written),
-            Err(_) => Err(NO_MEMORY),
+        match self.gate.request_message(request) {
+            Some(message) => copied_octets(&message.client, out, written),
+            None => Err(CallFault::NothingTaken),
         }
     }
 
@@ -347,6 +358,7 @@ impl GateHandle {
             unhandled: 0,
             is_report: false,
             again: false,
+            times: 0,
         })
     }
 

@@ -26,9 +26,10 @@ pub struct GateInfo {
     /// name, 4 one of a name that isn't after the one asked, 5 one without a value, 6 one with a value behind
     /// endOfMibView.
     pub misfit: u32,
-    /// error-status of a Response that goes to a client (RFC 3416, section 3).
+    /// error-status of a Response that goes to a client, or of a device's answer (RFC 3416, section 3). One below 0 is
+    /// 4294967295.
     pub status: u32,
-    /// error-index of a Response that goes to a client.
+    /// error-index of the same.
     pub index: u32,
     /// The tag of the PDU by which a client's message that waits asks.
     pub pdu: u32,
@@ -42,6 +43,8 @@ pub struct GateInfo {
     pub is_report: bool,
     /// Whether the device is asked the same again, since it didn't answer.
     pub again: bool,
+    /// How often a device was asked the same that didn't answer.
+    pub times: u32,
 }
 
 /// What the last call on a gateway tells besides its event.
@@ -58,9 +61,11 @@ pub(crate) enum GateNote {
     Unanswered(EndedBy),
     /// Whether the device is asked the same again.
     Asked(bool),
-    /// A device's answer: why its bindings don't answer what it was asked, if they don't, and how many of them are
-    /// hidden.
-    Answer(Option<AnswerFault>, usize),
+    /// A device was given up that was asked the same so often.
+    GivenUp(u32),
+    /// A device's answer: its error-status and error-index, why its bindings don't answer what it was asked, if they
+    /// don't, and how many of them are hidden.
+    Answer(ResponseStatus, Option<AnswerFault>, usize),
 }
 
 impl GateNote {
@@ -103,9 +108,13 @@ impl GateNote {
                 ..about
             },
             GateNote::Asked(again) => GateInfo { again, ..about },
-            GateNote::Answer(fault, hidden) => {
+            GateNote::GivenUp(times) => GateInfo { times, ..about },
+            GateNote::Answer(says, fault, hidden) => {
+                let (status, index) = (natural(says.status), natural(says.index));
                 let (misfit, binding) = fault_numbers(fault);
                 GateInfo {
+                    status,
+                    index,
                     misfit,
                     binding,
                     hidden,
@@ -152,12 +161,12 @@ fn tag_number(tag: Option<u8>) -> u32
     }
 }
 
-/// Returns the number, or 0 if it is below 0.
+/// Returns the number, or 4294967295 if it is below 0.
 fn natural(number: i32) -> u32
     ensures { result ≡ natural number }
 {
     let Ok(natural) = u32::try_from(number) else {
-        return 0;
+        return u32::MAX;
     };
     natural
 }

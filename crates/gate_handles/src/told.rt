@@ -1,6 +1,7 @@
 //! Why a gateway's configuration is refused, and whom a datagram names, for callers in other languages.
 
 ghost use Rattle.std.specs.Prelude.{◌≡◌, IfOk};
+ghost use Rattle.snmp_handles.specs.Parts.{Copies};
 ghost use Rattle.gate_handles.specs.Told.{TellsGate, IsTold, CopiesUser};
 
 use snmp_handles::{CallFault, copied_message};
@@ -69,5 +70,22 @@ pub fn copied_user(datagram: &[u8], out: &mut [u8], written: &mut usize) -> Resu
         return Err(CallFault::ShortBuffer);
     }
     out[..user.len()].copy_from_slice(user);
+    Ok(())
+}
+
+/// Copies the octets to the front of the buffer, and tells how many they are. The error is ShortBuffer, which leaves
+/// the buffer as it was.
+pub(crate) fn copied_octets(
+    octets: &[u8],
+    out: &mut [u8],
+    written: &mut usize,
+) -> Result<(), CallFault>
+    ensures { Copies octets.now out.old out.new written.new result }
+{
+    *written = octets.len();
+    if octets.len() > out.len() {
+        return Err(CallFault::ShortBuffer);
+    }
+    out[..octets.len()].copy_from_slice(octets);
     Ok(())
 }

@@ -9,10 +9,10 @@ ghost use Rattle.snmp_handles.specs.Faults.{fault_code};
 ghost use Rattle.snmp_handles.specs.declared.fault.CallFault.TheVariants.{Refused};
 ghost use Rattle.snmp_message.specs.declared.refusal.Refusal.TheVariants.{OutOfMemory};
 ghost use Rattle.snmp_c.specs.GateCalls.{MakesGateway, ReadsConfiguration, ClearsGate, GateCalled, GateCopies};
-ghost use Rattle.snmp_c.specs.GateCalls.{TellsGateConfiguration, TellsUser};
+ghost use Rattle.snmp_c.specs.GateCalls.{GateLine, TellsGateConfiguration, TellsUser};
 
-use crate::gate_asked::{GateAsked, GateSaid};
-use crate::gate_calls::{call, clear, copy};
+use crate::gate_asked::{GateAsked, GateSaid, LineAsked};
+use crate::gate_calls::{call, clear, copy, line};
 use gate_handles::{GateHandle, copied_user, tell_gate_config};
 use snmp_handles::{CallFault, code_of};
 use snmp_msg::Refusal;
@@ -131,8 +131,8 @@ pub unsafe extern "C" fn proved_gate_call(
 }
 
 /// Copies octets to the front of the buffer, and writes how many they are: 0 the datagram that is to be sent; 1 the
-/// address of the client to whom it goes, as it came with the client's datagram; 2 the contextName in which the
-/// messages of the request with this number ask; 3 what the configuration says at the position of this number, counted
+/// address of the client whose message is answered, or isn't, as it came with the client's datagram; 2 that of the
+/// client that asks the request with this number; 3 what the configuration says at the position of this number, counted
 /// from 0. That has settings: 0 the path of the boots file; 1 the address at which it listens; 2 the contextName of the
 /// device, 3 its address, and 4 what about it is probably a mistake; 5 the address at which it takes Traps; 6 the
 /// address of the receiver, 7 the name of its user, 8 the word for its level, and 9 `trap` or `inform`; 10 the read
@@ -164,4 +164,23 @@ pub unsafe extern "C" fn proved_gate_copy(
         out,
         written,
     )
+}
+
+/// Copies the line of this kind that the last call has for a log to the front of the buffer, and writes how many octets
+/// it has. It is for people: no definition has its words. It answers -2 where there is no such line, and 14 if memory
+/// runs out; then nothing is written. It answers -5 where the buffer is too short: the octets are counted then too.
+#[unsafe(no_mangle)]
+pub unsafe extern "C" fn proved_gate_line(
+    at: *mut u8,
+    asked: &LineAsked<'_>,
+    out: &mut [u8],
+    written: &mut usize,
+) -> i32
+    ghost held: { GateHeld }
+    requires* { sem 𝓛 (lies_at gates.the_row full_share at held) }
+    ensures* { ∃ₛ (λ (new : GateHeld). sem 𝓛
+        (lies_at gates.the_row full_share at new) ∗ ⌜ GateLine out.old out.new
+        written.old written.new held new result ⌝) }
+{
+    line(&mut *(at as *mut GateHandle), asked, out, written)
 }

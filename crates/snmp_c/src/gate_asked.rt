@@ -33,6 +33,8 @@ pub(crate) enum GateCall {
     /// Tells the value of another counter of the agent, 7 to 14 as `AgentCall::Count` has them. It answers -1 where
     /// none has the number.
     Count,
+    /// Tells as the value the kinds of the lines of the last call, each by its bit, as `GateHandle::lines` has them.
+    Lines,
 }
 
 impl GateCall {
@@ -49,6 +51,7 @@ impl GateCall {
             5 => Some(GateCall::MayNotify),
             6 => Some(GateCall::Counter),
             7 => Some(GateCall::Count),
+            8 => Some(GateCall::Lines),
             _ => None,
         }
     }
@@ -75,6 +78,18 @@ pub struct GateAsked<'a> {
     pub client: &'a [u8],
     pub datagram: &'a [u8],
     pub arcs: &'a [u32],
+}
+
+/// Which line is asked for, and what it is made of besides the gateway.
+#[repr(C)]
+#[derive(Clone, Copy)]
+pub struct LineAsked<'a> {
+    /// The line's kind, by its bit.
+    pub kind: u32,
+    /// The client's address, as a text.
+    pub client: &'a [u8],
+    /// The datagram that the last call took.
+    pub datagram: &'a [u8],
 }
 
 /// What a gateway tells.

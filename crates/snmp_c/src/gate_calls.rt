@@ -6,9 +6,9 @@ ghost use Rattle.std.specs.Prelude.{◌≡◌, MatchResult};
 ghost use Rattle.snmp_handles.specs.Faults.{code};
 ghost use Rattle.snmp_c.specs.GateCalls.{ClearsGate, GateCalled, GateCopies, GateDoes, TakesFromClient};
 ghost use Rattle.snmp_c.specs.GateCalls.{TakesFromDevice, SendsDue, TellsDue, TellsGateInfo, TellsMayNotify};
-ghost use Rattle.snmp_c.specs.GateCalls.{GateCounter, GateCount, tells_event, why_number};
+ghost use Rattle.snmp_c.specs.GateCalls.{GateCounter, GateCount, GateLine, TellsLines, tells_event, why_number};
 
-use crate::gate_asked::{GateAsked, GateCall, GateSaid};
+use crate::gate_asked::{GateAsked, GateCall, GateSaid, LineAsked};
 use crate::gate_copied::GateCopied;
 use gate_handles::{GateEvent, GateHandle};
 use snmp_handles::{CallFault, code_of, counter_of};
@@ -37,6 +37,7 @@ fn done(handle: &mut GateHandle, call: GateCall, asked: &GateAsked<'_>, said: &m
         GateCall::MayNotify => may_notify(handle, asked, said),
         GateCall::Counter => counter(handle, asked.counter, said),
         GateCall::Count => count(handle, asked.counter, said),
+        GateCall::Lines => lines(handle, said),
     }
 }
 
@@ -156,6 +157,26 @@ fn count(handle: &mut GateHandle, n: u32, said: &mut GateSaid) -> i32
     }
 }
 
+/// Tells the kinds of the lines of the last call.
+fn lines(handle: &mut GateHandle, said: &mut GateSaid) -> i32
+    ensures { TellsLines said.old said.new handle.old handle.new result }
+{
+    said.value = handle.lines();
+    0
+}
+
+/// Copies the line of this kind of the last call.
+pub(crate) fn line(
+    handle: &mut GateHandle,
+    asked: &LineAsked<'_>,
+    out: &mut [u8],
+    written: &mut usize,
+) -> i32
+    ensures { GateLine out.old out.new written.old written.new handle.old handle.new result }
+{
+    code_of(handle.line(asked.kind, asked.client, asked.datagram, out, written))
+}
+
 /// Copies what has these numbers: of the request of the number, or at the position.
 pub(crate) fn copy(
     handle: &mut GateHandle,
@@ -174,7 +195,7 @@ pub(crate) fn copy(
     match copied {
         GateCopied::Message => code_of(handle.message(out, written)),
         GateCopied::Client => code_of(handle.client(out, written)),
-        GateCopied::Context => code_of(handle.context(number, out, written)),
+        GateCopied::Asker => code_of(handle.asker(number, out, written)),
         GateCopied::Setting(it) => code_of(handle.setting(it, number as usize, out, written)),
     }
 }

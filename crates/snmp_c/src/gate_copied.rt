@@ -10,16 +10,16 @@ use gate_handles::GateText;
 pub(crate) enum GateCopied {
     /// The datagram that is to be sent.
     Message,
-    /// The address of the client to whom it goes.
+    /// The address of the client whose message is answered, or isn't.
     Client,
-    /// The contextName in which the messages of a request ask.
-    Context,
+    /// The address of the client that asks a request.
+    Asker,
     /// What the configuration says at a position.
     Setting(GateText),
 }
 
 impl GateCopied {
-    /// What has these numbers: 0 the datagram, 1 its client, 2 the context of a request, and 3 the setting by its own
+    /// What has these numbers: 0 the datagram, 1 its client, 2 the client of a request, and 3 the setting by its own
     /// number, as `GateText::of` has it.
     pub(crate) fn of(what: u32, setting: u32) -> Option<GateCopied>
         ensures { result ≡ gate_copied_of what setting }
@@ -27,7 +27,7 @@ impl GateCopied {
         match what {
             0 => Some(GateCopied::Message),
             1 => Some(GateCopied::Client),
-            2 => Some(GateCopied::Context),
+            2 => Some(GateCopied::Asker),
             3 => GateText::of(setting).map(GateCopied::Setting),
             _ => None,
         }

@@ -121,9 +121,9 @@ client_stands first middle last now from w client.SetOfBefore events known stays
 
 device_stands : (first middle last : Gate) (now number : ℕ) (w : List ℕ) (taken : DeviceTaken) (events : List Event) (known : RunStands first events middle) → Stays middle last → DeviceHappens middle now known.history number w taken last
     → RunStands first (device_comes now number w taken ∷ events) last
-device_stands first middle last now number w (device.Answers n why hidden) events known stays happens = record {
+device_stands first middle last now number w (device.Answers n says why hidden) events known stays happens = record {
   history = answered n number happens.0 w ∷ known.history;
-  is = happened first middle last now (answered n number happens.0 w) known.history events (device_comes now number w (device.Answers n why hidden)) known.stays known.is happens.1 known.is.requests (λ i. (number, w) ∷ known.is.answers i) known.is.seals tt known.is.devices known.is.clients;
+  is = happened first middle last now (answered n number happens.0 w) known.history events (device_comes now number w (device.Answers n says why hidden)) known.stays known.is happens.1 known.is.requests (λ i. (number, w) ∷ known.is.answers i) known.is.seals tt known.is.devices known.is.clients;
   stands = happens.1.stands;
   stays = stays_on first middle last known.stays stays;
   keeps = λ b. (keeps_more first last now (answered n number happens.0 w ∷ known.history) (stays_on first middle last known.stays stays) happens.1.stands b, allowed_first first middle known.history (answered n number happens.0 w) known.stays happens.1.allowed, known.keeps b);
@@ -136,7 +136,7 @@ send_stands first middle last now f (out.ToClient n to says w ended) events know
     let e = sent n happens.0 (record { agent = middle.agent; now = now / 1000; salt = f.salt }) (answer_with says w) in record {
       history = e ∷ known.history;
       is = happened first middle last now e known.history events (goes_out now f (out.ToClient n to says w ended)) known.stays known.is happens.2 known.is.requests known.is.answers (λ i. (now / 1000, f.salt) ∷ known.is.seals i) known.stays.agent known.is.devices
-          (λ i. ((happens.1 i).items, answer_with says w) ∷ known.is.clients i);
+          (λ i. ((happens.1 i).client.items, answer_with says w) ∷ known.is.clients i);
       stands = happens.2.stands;
       stays = stays_on first middle last known.stays stays;
       keeps = λ b. (keeps_more first last now (e ∷ known.history) (stays_on first middle last known.stays stays) happens.2.stands b, allowed_first first middle known.history e known.stays happens.2.allowed, known.keeps b);
@@ -149,18 +149,18 @@ send_stands first middle last now f (out.ToDevice n to w again) events known sta
       stays = stays_on first middle last known.stays stays;
       keeps = λ b. (keeps_more first last now (e ∷ known.history) (stays_on first middle last known.stays stays) happens.3.stands b, allowed_first first middle known.history e known.stays happens.3.allowed, known.keeps b);
     }
-send_stands first middle last now f (out.Unanswered n why ended) events known stays happens =
+send_stands first middle last now f (out.Unanswered n to why ended) events known stays happens =
     let e = unanswered n happens.0 (record { agent = middle.agent; now = now / 1000; salt = f.salt }) why in record {
       history = e ∷ known.history;
-      is = happened first middle last now e known.history events (goes_out now f (out.Unanswered n why ended)) known.stays known.is happens.1 known.is.requests known.is.answers known.is.seals known.stays.agent known.is.devices known.is.clients;
-      stands = happens.1.stands;
+      is = happened first middle last now e known.history events (goes_out now f (out.Unanswered n to why ended)) known.stays known.is happens.2 known.is.requests known.is.answers known.is.seals known.stays.agent known.is.devices known.is.clients;
+      stands = happens.2.stands;
       stays = stays_on first middle last known.stays stays;
-      keeps = λ b. (keeps_more first last now (e ∷ known.history) (stays_on first middle last known.stays stays) happens.1.stands b, allowed_first first middle known.history e known.stays happens.1.allowed, known.keeps b);
+      keeps = λ b. (keeps_more first last now (e ∷ known.history) (stays_on first middle last known.stays stays) happens.2.stands b, allowed_first first middle known.history e known.stays happens.2.allowed, known.keeps b);
     }
-send_stands first middle last now f (out.GivenUp n to) events known stays happens =
+send_stands first middle last now f (out.GivenUp n to times) events known stays happens =
     let e = given_up n to in record {
       history = e ∷ known.history;
-      is = happened first middle last now e known.history events (goes_out now f (out.GivenUp n to)) known.stays known.is happens known.is.requests known.is.answers known.is.seals tt known.is.devices known.is.clients;
+      is = happened first middle last now e known.history events (goes_out now f (out.GivenUp n to times)) known.stays known.is happens known.is.requests known.is.answers known.is.seals tt known.is.devices known.is.clients;
       stands = happens.stands;
       stays = stays_on first middle last known.stays stays;
       keeps = λ b. (keeps_more first last now (e ∷ known.history) (stays_on first middle last known.stays stays) happens.stands b, allowed_first first middle known.history e known.stays happens.allowed, known.keeps b);

@@ -15,7 +15,6 @@ use Rattle.usm_core.specs.Sealed.{Sending}
 use Rattle.usm_core.specs.Table.{holds}
 use Rattle.snmp_outgoing.specs.Fronts.{FrontText}
 use Rattle.snmp_agent.specs.Sent.{Sends, SendsFront}
-use Rattle.std.specs.Global.{Vec}
 use Rattle.std.proofs.Common.{ap, arith, inl, inr, subst, sym, take, ℤ}
 use Rattle.snmp_gate.specs.Counting.{CountsReply, CountsSent, CountsUnhandled}
 use Rattle.snmp_gate.specs.Limits.{IsLimit, IsShortFor, IsShortReply, IsShortReplyFor}
@@ -104,9 +103,9 @@ on_both (Ok x) P Q p q = (p, q)
 on_both (Err e) P Q p q = tt
 
 -- what is counted of what goes out is what is counted of what became of the message
-pub counts_sent : (old new : AgentState) (number : ℕ) (client : Vec ℕ) (ended : EndedBy) (r : Reply) (sent : Sent) → IsSentBy number client ended r sent → CountsReply old new r → CountsSent old new sent
-counts_sent old new number client ended (reply.Responds says datagram) sent is counts = subst (CountsSent old new) (sym is) counts
-counts_sent old new number client ended (reply.Reports datagram) sent is counts = subst (CountsSent old new) (sym is) counts
-counts_sent old new number client ended reply.Nothing sent is counts = subst (CountsSent old new) (sym is) (elim counts [ inl same ↦ inl same | inr more ↦ inr (inl more) ])
-counts_sent old new number client ended reply.SilentDrop sent is counts = subst (CountsSent old new) (sym is) (inr (inr counts))
-counts_sent old new number client ended (reply.Refused why) sent is counts = subst (CountsSent old new) (sym is) counts
+pub counts_sent : (old new : AgentState) (number : ℕ) (message : WaitingMessage) (ended : EndedBy) (r : Reply) (sent : Sent) → IsSentBy number message ended r sent → CountsReply old new r → CountsSent old new sent
+counts_sent old new number message ended (reply.Responds says datagram) sent is counts = subst (CountsSent old new) (sym is) counts
+counts_sent old new number message ended (reply.Reports datagram) sent is counts = subst (CountsSent old new) (sym is) counts
+counts_sent old new number message ended reply.Nothing sent is counts = subst (CountsSent old new) (sym is) (elim counts [ inl same ↦ inl same | inr more ↦ inr (inl more) ])
+counts_sent old new number message ended reply.SilentDrop sent is counts = subst (CountsSent old new) (sym is) (inr (inr counts))
+counts_sent old new number message ended (reply.Refused why) sent is counts = subst (CountsSent old new) (sym is) counts

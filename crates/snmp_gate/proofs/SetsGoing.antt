@@ -157,10 +157,10 @@ leaves old new since now before e m said place later same isnt was answer asks t
       (answered_were (groups_of old.requests.list.items) (groups_of new.requests.list.items) place m answer) (keeps_told now m said old.sets.sets.items new.sets.sets.items told) stands.sets;
 }
 
-unanswered_happens : (old new : Gate) (since now : ℕ) (before : List Happening) (place : ℕ) (f : Fresh) (r : WaitingRequest WaitingMessage Work) (m : WaitingMessage) (replied : Reply) (why : Option Refusal) (ended : EndedBy) → since ≤ now
-    → place < length old.requests.list.items → r ≡ slice_index_or old.requests.list.items place r → IsLeftAfter old place m new → new.asks ≡ old.asks → IsToldOf m None old.sets.sets.items new.sets.sets.items → IsReplyWithout replied why
-    → LeavesBy old.limits old.agent (now / 1000) f.salt r.first r.work replied → GateStands since before old → SendHappens old now before f (out.Unanswered r.number why ended) new
-unanswered_happens old new since now before place f r m replied why ended later within is left asks told none leaves_it stands =
+unanswered_happens : (old new : Gate) (since now : ℕ) (before : List Happening) (place : ℕ) (f : Fresh) (r : WaitingRequest WaitingMessage Work) (m own : WaitingMessage) (replied : Reply) (why : Option Refusal) (ended : EndedBy) → since ≤ now
+    → place < length old.requests.list.items → r ≡ slice_index_or old.requests.list.items place r → IsLeftAfter old place m new → own ≡ m → new.asks ≡ old.asks → IsToldOf m None old.sets.sets.items new.sets.sets.items → IsReplyWithout replied why
+    → LeavesBy old.limits old.agent (now / 1000) f.salt r.first r.work replied → GateStands since before old → SendHappens old now before f (out.Unanswered r.number own why ended) new
+unanswered_happens old new since now before place f r m own replied why ended later within is left from asks told none leaves_it stands =
     let by = answering_at old now f.salt in
     let e = unanswered r.number m by why in
     let ends = unanswered_all old new before place r m by why within is left stands.requests in
@@ -168,6 +168,7 @@ unanswered_happens old new since now before place f r m replied why ended later 
     let rest = leaves old new since now before e m None place later (λ k. refl) (λ n at w x same. let wrong : unanswered r.number m by why ≡ accepted n at w x = same in cc)
     (λ n. was_before e before n (λ d id what w same. let wrong : unanswered r.number m by why ≡ asked n d id what w = same in cc)) left.answer asks told (λ d says own is. absurd (none_is_some says is)) stands in (
       m,
+      from,
       record {
         lawful = record { mediated = ends.mediated; in_turn = ends.in_turn; own_id = tt; once = tt };
         allowed = λ q asked. subst (λ (x : WaitingMessage). MayBeLeft old.limits old.devices.list.items before r.number q x by why) first
@@ -191,11 +192,11 @@ may_tell old before place r m within is first stands (Ends ending.Silent) ends =
 may_tell old before place r m within is first stands (Open o) ends = tt
 
 -- a client is sent this
-answer_happens : (old new : Gate) (since now : ℕ) (before : List Happening) (place : ℕ) (f : Fresh) (r : WaitingRequest WaitingMessage Work) (m : WaitingMessage) (client : Vec ℕ) (replied : Reply) (says : Option ResponseStatus) (datagram : Vec ℕ) (ended : EndedBy) → since ≤ now
-    → place < length old.requests.list.items → r ≡ slice_index_or old.requests.list.items place r → IsLeftAfter old place m new → client ≡ m.client → IsReplyWith replied (answer_with says datagram)
+answer_happens : (old new : Gate) (since now : ℕ) (before : List Happening) (place : ℕ) (f : Fresh) (r : WaitingRequest WaitingMessage Work) (m own : WaitingMessage) (replied : Reply) (says : Option ResponseStatus) (datagram : Vec ℕ) (ended : EndedBy) → since ≤ now
+    → place < length old.requests.list.items → r ≡ slice_index_or old.requests.list.items place r → IsLeftAfter old place m new → own ≡ m → IsReplyWith replied (answer_with says datagram)
     → ((q : Question) (told : Said) → question_in r.first ≡ Some q → RepliesTo old.agent (now / 1000) f.salt q told r.first.kept r.work replied)
-    → new.asks ≡ old.asks → IsToldOf m says old.sets.sets.items new.sets.sets.items → IsShortFor old.limits r.first datagram.items → GateStands since before old → SendHappens old now before f (out.ToClient r.number client says datagram ended) new
-answer_happens old new since now before place f r m client replied says datagram ended later within is left from with_this replies asks told short stands =
+    → new.asks ≡ old.asks → IsToldOf m says old.sets.sets.items new.sets.sets.items → IsShortFor old.limits r.first datagram.items → GateStands since before old → SendHappens old now before f (out.ToClient r.number own says datagram ended) new
+answer_happens old new since now before place f r m own replied says datagram ended later within is left from with_this replies asks told short stands =
     let by = answering_at old now f.salt in
     let answer = answer_with says datagram in
     let e = sent r.number m by answer in
@@ -213,23 +214,23 @@ answer_happens old new since now before place f r m client replied says datagram
       },
     )
 
-pub reply_happens : (old new : Gate) (since now : ℕ) (before : List Happening) (place : ℕ) (f : Fresh) (r : WaitingRequest WaitingMessage Work) (m : WaitingMessage) (client : Vec ℕ) (ended : EndedBy) (replied : Reply) (output : Sent) → since ≤ now
-    → place < length old.requests.list.items → r ≡ slice_index_or old.requests.list.items place r → IsLeftAfter old place m new → client ≡ m.client
+pub reply_happens : (old new : Gate) (since now : ℕ) (before : List Happening) (place : ℕ) (f : Fresh) (r : WaitingRequest WaitingMessage Work) (m own : WaitingMessage) (ended : EndedBy) (replied : Reply) (output : Sent) → since ≤ now
+    → place < length old.requests.list.items → r ≡ slice_index_or old.requests.list.items place r → IsLeftAfter old place m new → own ≡ m
     → ((q : Question) (told : Said) → question_in r.first ≡ Some q → RepliesTo old.agent (now / 1000) f.salt q told r.first.kept r.work replied)
-    → IsSentBy r.number client ended replied output → new.asks ≡ old.asks → IsToldOf m (says_of replied) old.sets.sets.items new.sets.sets.items
+    → IsSentBy r.number own ended replied output → new.asks ≡ old.asks → IsToldOf m (says_of replied) old.sets.sets.items new.sets.sets.items
     → LeavesBy old.limits old.agent (now / 1000) f.salt r.first r.work replied → IsShortReplyFor old.limits r.first replied → GateStands since before old → SendHappens old now before f output new
-reply_happens old new since now before place f r m client ended (reply.Responds says datagram) output later within is left from replies sends asks told leaves_it short stands =
+reply_happens old new since now before place f r m own ended (reply.Responds says datagram) output later within is left from replies sends asks told leaves_it short stands =
     subst (λ (o : Sent). SendHappens old now before f o new) (sym sends)
-    (answer_happens old new since now before place f r m client (reply.Responds says datagram) (Some says) datagram ended later within is left from refl replies asks told short stands)
-reply_happens old new since now before place f r m client ended (reply.Reports datagram) output later within is left from replies sends asks told leaves_it short stands =
+    (answer_happens old new since now before place f r m own (reply.Responds says datagram) (Some says) datagram ended later within is left from refl replies asks told short stands)
+reply_happens old new since now before place f r m own ended (reply.Reports datagram) output later within is left from replies sends asks told leaves_it short stands =
     subst (λ (o : Sent). SendHappens old now before f o new) (sym sends)
-    (answer_happens old new since now before place f r m client (reply.Reports datagram) None datagram ended later within is left from refl replies asks told short stands)
-reply_happens old new since now before place f r m client ended reply.Nothing output later within is left from replies sends asks told leaves_it short stands =
-    subst (λ (o : Sent). SendHappens old now before f o new) (sym sends) (unanswered_happens old new since now before place f r m reply.Nothing None ended later within is left asks told refl leaves_it stands)
-reply_happens old new since now before place f r m client ended reply.SilentDrop output later within is left from replies sends asks told leaves_it short stands =
-    subst (λ (o : Sent). SendHappens old now before f o new) (sym sends) (unanswered_happens old new since now before place f r m reply.SilentDrop None ended later within is left asks told refl leaves_it stands)
-reply_happens old new since now before place f r m client ended (reply.Refused why) output later within is left from replies sends asks told leaves_it short stands =
-    subst (λ (o : Sent). SendHappens old now before f o new) (sym sends) (unanswered_happens old new since now before place f r m (reply.Refused why) (Some why) ended later within is left asks told refl leaves_it stands)
+    (answer_happens old new since now before place f r m own (reply.Reports datagram) None datagram ended later within is left from refl replies asks told short stands)
+reply_happens old new since now before place f r m own ended reply.Nothing output later within is left from replies sends asks told leaves_it short stands =
+    subst (λ (o : Sent). SendHappens old now before f o new) (sym sends) (unanswered_happens old new since now before place f r m own reply.Nothing None ended later within is left from asks told refl leaves_it stands)
+reply_happens old new since now before place f r m own ended reply.SilentDrop output later within is left from replies sends asks told leaves_it short stands =
+    subst (λ (o : Sent). SendHappens old now before f o new) (sym sends) (unanswered_happens old new since now before place f r m own reply.SilentDrop None ended later within is left from asks told refl leaves_it stands)
+reply_happens old new since now before place f r m own ended (reply.Refused why) output later within is left from replies sends asks told leaves_it short stands =
+    subst (λ (o : Sent). SendHappens old now before f o new) (sym sends) (unanswered_happens old new since now before place f r m own (reply.Refused why) (Some why) ended later within is left from asks told refl leaves_it stands)
 
 -- ---- a request that ends
 

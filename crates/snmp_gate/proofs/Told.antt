@@ -1,7 +1,6 @@
 -- What is reported of what goes out.
 use Rattle.std.specs.Prelude.{◌≡◌, ◌<◌, ℕ, Some, List, length, slice_index_or}
 use Rattle.std.specs.List.{HoldsAt}
-use Rattle.std.specs.Global.{Vec}
 use Rattle.std.proofs.Common.{sym, ap, subst, ◌∙◌, arith}
 use Rattle.std.proofs.lemmas.List.{get_or-map, get_or-set_same, get_or_default, length-map, length-set}
 use Rattle.snmp_gate.specs.Due.{HasEnded, IsTodo}
@@ -27,18 +26,18 @@ use Rattle.snmp_gate.proofs.Asked.{none_is_some}
 
 -- ---- a message that is answered, or isn't
 
-pub sent_tells : (number : ℕ) (client : Vec ℕ) (ended : EndedBy) (replied : Reply) (sent : Sent) (r : WaitingRequest WaitingMessage Work) → IsSentBy number client ended replied sent → number ≡ r.number → IsEndOf r.work ended → TellsEnd sent r
-sent_tells number client ended (reply.Responds says datagram) sent r is number_is end = subst (λ (s : Sent). TellsEnd s r) (sym is) (number_is, end)
-sent_tells number client ended (reply.Reports datagram) sent r is number_is end = subst (λ (s : Sent). TellsEnd s r) (sym is) (number_is, end)
-sent_tells number client ended reply.Nothing sent r is number_is end = subst (λ (s : Sent). TellsEnd s r) (sym is) (number_is, end)
-sent_tells number client ended reply.SilentDrop sent r is number_is end = subst (λ (s : Sent). TellsEnd s r) (sym is) (number_is, end)
-sent_tells number client ended (reply.Refused why) sent r is number_is end = subst (λ (s : Sent). TellsEnd s r) (sym is) (number_is, end)
+pub sent_tells : (number : ℕ) (message : WaitingMessage) (ended : EndedBy) (replied : Reply) (sent : Sent) (r : WaitingRequest WaitingMessage Work) → IsSentBy number message ended replied sent → number ≡ r.number → IsEndOf r.work ended → TellsEnd sent r
+sent_tells number message ended (reply.Responds says datagram) sent r is number_is end = subst (λ (s : Sent). TellsEnd s r) (sym is) (number_is, end)
+sent_tells number message ended (reply.Reports datagram) sent r is number_is end = subst (λ (s : Sent). TellsEnd s r) (sym is) (number_is, end)
+sent_tells number message ended reply.Nothing sent r is number_is end = subst (λ (s : Sent). TellsEnd s r) (sym is) (number_is, end)
+sent_tells number message ended reply.SilentDrop sent r is number_is end = subst (λ (s : Sent). TellsEnd s r) (sym is) (number_is, end)
+sent_tells number message ended (reply.Refused why) sent r is number_is end = subst (λ (s : Sent). TellsEnd s r) (sym is) (number_is, end)
 
 pub end_tells : (sent : Sent) (r : WaitingRequest WaitingMessage Work) → TellsEnd sent r → Tells sent r
-end_tells (out.ToClient number client says datagram ended) r tells = tells
-end_tells (out.Unanswered number why ended) r tells = tells
+end_tells (out.ToClient number message says datagram ended) r tells = tells
+end_tells (out.Unanswered number message why ended) r tells = tells
 end_tells (out.ToDevice number device datagram again) r tells = absurd tells
-end_tells (out.GivenUp number device) r tells = absurd tells
+end_tells (out.GivenUp number device times) r tells = absurd tells
 end_tells out.Nothing r tells = absurd tells
 
 -- ---- a request that ends by an answer in the same call
@@ -48,12 +47,12 @@ open_end (Open o) goes_on ended is = is
 open_end (Ends e) goes_on ended is = absurd (goes_on tt)
 
 worked_so : (sent : Sent) (r s : WaitingRequest WaitingMessage Work) (e : RequestEnd) → s.number ≡ r.number → s.work ≡ Ends e → end_told e ≡ Answer → (¬ HasEnded r.work) → TellsEnd sent s → Tells sent r
-worked_so (out.ToClient number client says datagram ended) r s e numbers is answer goes_on tells =
+worked_so (out.ToClient number message says datagram ended) r s e numbers is answer goes_on tells =
     let by : ended ≡ end_told e = subst (λ (w : Work). IsEndOf w ended) is tells.1 in (tells.0 ∙ numbers, open_end r.work goes_on ended (by ∙ answer))
-worked_so (out.Unanswered number why ended) r s e numbers is answer goes_on tells =
+worked_so (out.Unanswered number message why ended) r s e numbers is answer goes_on tells =
     let by : ended ≡ end_told e = subst (λ (w : Work). IsEndOf w ended) is tells.1 in (tells.0 ∙ numbers, open_end r.work goes_on ended (by ∙ answer))
 worked_so (out.ToDevice number device datagram again) r s e numbers is answer goes_on tells = absurd tells
-worked_so (out.GivenUp number device) r s e numbers is answer goes_on tells = absurd tells
+worked_so (out.GivenUp number device times) r s e numbers is answer goes_on tells = absurd tells
 worked_so out.Nothing r s e numbers is answer goes_on tells = absurd tells
 
 pub worked_tells : (rs new : Requests) (place : ℕ) (was : Work) (e : RequestEnd) (sent : Sent) → IsWorked (groups_of rs) place was (Ends e) (groups_of new) → end_told e ≡ Answer → HoldsAt (λ (r : WaitingRequest WaitingMessage Work). ¬ HasEnded r.work) rs place

@@ -30,7 +30,7 @@ CountsReply old new (reply.Refused why) = new ≡ old
 abbrev pub CountsSent : AgentState → AgentState → Sent → Type 0
 CountsSent old new (out.ToClient number to (Some says) datagram ended) = new ≡ old
 CountsSent old new (out.ToClient number to None datagram ended) = CountsUnhandled old new
-CountsSent old new (out.Unanswered number (Some why) ended) = new ≡ old
-CountsSent old new (out.Unanswered number None ended) =
+CountsSent old new (out.Unanswered number to (Some why) ended) = new ≡ old
+CountsSent old new (out.Unanswered number to None ended) =
     (new ≡ old) ⊎ (CountsUnhandled old new ⊎ CountsSilentDrop old new)
 CountsSent old new _ = new ≡ old

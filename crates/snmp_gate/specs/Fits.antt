@@ -24,6 +24,7 @@ use Rattle.snmp_gate.specs.declared.gate.Gate.{Gate}
 use Rattle.snmp_gate.specs.declared.onward.AnswerTaken.{AnswerTaken}
 use Rattle.snmp_gate.specs.declared.onward.AnswerTaken.TheVariants as taken
 use Rattle.snmp_gate.specs.declared.requests.WaitingRequest.{WaitingRequest}
+use Rattle.snmp_gate.specs.declared.set_answer.ResponseStatus.{ResponseStatus}
 use Rattle.snmp_gate.specs.declared.task.Task.{Task}
 use Rattle.snmp_gate.specs.declared.task.Task.TheVariants as task
 use Rattle.snmp_gate.specs.declared.waiting_message.WaitingMessage.{WaitingMessage}
@@ -75,12 +76,14 @@ abbrev pub FitsRequest : Gate → ℕ → ℕ → ℕ → PduParts → Option An
 FitsRequest gate device id number answer fault r = (r.number ≡ number) × WaitsFor device id r.work
     × ((q : Question) → question_in r.first ≡ Some q → WorkFits (seen_in gate.agent.tables q) r.work answer fault)
 
--- the datagram is an answer to what the device was asked for the request of this number; it fits, or this is why not
-pub record IsFitOf (gate : Gate) (device : ℕ) (datagram : List ℕ) (number : ℕ) (fault : Option AnswerFault)
-    : Type 0 where
+-- the datagram is an answer to what the device was asked for the request of this number, and says this; it fits, or
+-- this is why not
+pub record IsFitOf (gate : Gate) (device : ℕ) (datagram : List ℕ) (number : ℕ) (says : ResponseStatus)
+    (fault : Option AnswerFault) : Type 0 where
   pub community : List ℕ
   pub answer : PduParts
   pub is_answer : IsDeviceAnswer datagram community answer
+  pub says_is : (says.status ≡ answer.second) × (says.index ≡ answer.third)
   pub id : ℕ
   pub id_is : answer.id ≡ pos id
   pub place : ℕ
@@ -88,5 +91,5 @@ pub record IsFitOf (gate : Gate) (device : ℕ) (datagram : List ℕ) (number : 
   pub fits : HoldsAt (FitsRequest gate device id number answer fault) gate.requests.list.items place
 
 abbrev pub IsFitTold : Gate → ℕ → List ℕ → DeviceTaken → Type 0
-IsFitTold gate device datagram (Answers number fault hidden) = IsFitOf gate device datagram number fault
+IsFitTold gate device datagram (Answers number says fault hidden) = IsFitOf gate device datagram number says fault
 IsFitTold gate device datagram _ = ⊤

@@ -54,5 +54,5 @@ pub record IsHiddenOf (gate : Gate) (device : ℕ) (datagram : List ℕ) (number
   pub hides : HoldsAt (HidesInRequest gate device id number answer hidden) gate.requests.list.items place
 
 abbrev pub IsHiddenTold : Gate → ℕ → List ℕ → DeviceTaken → Type 0
-IsHiddenTold gate device datagram (Answers number fault hidden) = IsHiddenOf gate device datagram number hidden
+IsHiddenTold gate device datagram (Answers number says fault hidden) = IsHiddenOf gate device datagram number hidden
 IsHiddenTold gate device datagram _ = ⊤

@@ -86,7 +86,7 @@ taken_from (finds_no_memory now ∷ before) = taken_from before
 
 -- the datagram of a device that was taken as an answer, with the device's number
 abbrev pub answer_by : ℕ → List ℕ → DeviceTaken → List (ℕ × List ℕ)
-answer_by device datagram (Answers number fault hidden) = (device, datagram) ∷ []
+answer_by device datagram (Answers number says fault hidden) = (device, datagram) ∷ []
 answer_by device datagram _ = []
 
 abbrev pub answers_of : List Event → List (ℕ × List ℕ)
@@ -104,7 +104,8 @@ sent_to_device (ToDevice number device datagram again) = (device, datagram.items
 sent_to_device _ = []
 
 abbrev pub sent_to_client : Sent → List (List ℕ × ClientAnswer)
-sent_to_client (ToClient number client says datagram ended) = (client.items, answer_with says datagram) ∷ []
+sent_to_client (ToClient number message says datagram ended) =
+    (message.client.items, answer_with says datagram) ∷ []
 sent_to_client _ = []
 
 abbrev pub to_devices : List Event → List (ℕ × List ℕ)
@@ -123,7 +124,7 @@ to_clients (finds_no_memory now ∷ before) = to_clients before
 
 -- the moments, in seconds, and the salts of what went out to clients
 abbrev pub sealed_by : ℕ → Fresh → Sent → List (ℕ × List ℕ)
-sealed_by now f (ToClient number client says datagram ended) = (now / 1000, f.salt) ∷ []
+sealed_by now f (ToClient number message says datagram ended) = (now / 1000, f.salt) ∷ []
 sealed_by now f _ = []
 
 abbrev pub sealed_with : List Event → List (ℕ × List ℕ)

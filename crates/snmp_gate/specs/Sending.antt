@@ -53,13 +53,13 @@ abbrev pub again_in : Work → Option ResponseStatus
 again_in (Ends e) = again_of e
 again_in (Open o) = None
 
-abbrev pub IsSentBy : ℕ → Vec ℕ → EndedBy → Reply → Sent → Type 0
-IsSentBy number client ended (reply.Responds says datagram) sent =
-    sent ≡ ToClient number client (Some says) datagram ended
-IsSentBy number client ended (reply.Reports datagram) sent = sent ≡ ToClient number client None datagram ended
-IsSentBy number client ended reply.Nothing sent = sent ≡ Unanswered number None ended
-IsSentBy number client ended reply.SilentDrop sent = sent ≡ Unanswered number None ended
-IsSentBy number client ended (reply.Refused why) sent = sent ≡ Unanswered number (Some why) ended
+abbrev pub IsSentBy : ℕ → WaitingMessage → EndedBy → Reply → Sent → Type 0
+IsSentBy number message ended (reply.Responds says datagram) sent =
+    sent ≡ ToClient number message (Some says) datagram ended
+IsSentBy number message ended (reply.Reports datagram) sent = sent ≡ ToClient number message None datagram ended
+IsSentBy number message ended reply.Nothing sent = sent ≡ Unanswered number message None ended
+IsSentBy number message ended reply.SilentDrop sent = sent ≡ Unanswered number message None ended
+IsSentBy number message ended (reply.Refused why) sent = sent ≡ Unanswered number message (Some why) ended
 
 abbrev pub Requests : Type 0
 Requests = List (WaitingRequest WaitingMessage Work)

@@ -1,8 +1,10 @@
 -- What is reported of what goes out: how a request ended, and whether its device is asked the same again.
 --
--- `end_told`: how a request ended. `TellsEnd`, `Tells`: what is reported of a request. `IsSentTold`: of one that waits.
+-- `end_told`: how a request ended. `times_in`: how often its device was asked. `TellsEnd`, `Tells`: what is reported of
+-- a request. `IsSentTold`: of one that waits.
 use Rattle.std.specs.Prelude.{◌≡◌, ◌≢◌, ◌⊎◌, ◌↔◌, ◌<◌, ⊤, ℕ, None, length, true}
 use Rattle.std.specs.List.{HoldsAt}
+use Rattle.snmp_gate.specs.Time.{times_asked}
 use Rattle.snmp_gate.specs.declared.gate.Gate.{Gate}
 use Rattle.snmp_gate.specs.declared.gate.Sent.{Sent}
 use Rattle.snmp_gate.specs.declared.gate.Sent.TheVariants as out
@@ -32,18 +34,23 @@ abbrev pub IsAskedNow : Work → Type 0
 IsAskedNow (Open o) = o.asked ≢ None
 IsAskedNow (Ends e) = ⊥
 
+-- how often its device was asked the same
+abbrev pub times_in : Work → ℕ
+times_in (Open o) = times_asked o.timer.turn
+times_in (Ends e) = 0
+
 -- what is reported of the request of which a message is answered, or isn't: its number, and how it ended
 abbrev pub TellsEnd : Sent → WaitingRequest WaitingMessage Work → Type 0
-TellsEnd (out.ToClient number client says datagram ended) r = (number ≡ r.number) × IsEndOf r.work ended
-TellsEnd (out.Unanswered number why ended) r = (number ≡ r.number) × IsEndOf r.work ended
+TellsEnd (out.ToClient number message says datagram ended) r = (number ≡ r.number) × IsEndOf r.work ended
+TellsEnd (out.Unanswered number message why ended) r = (number ≡ r.number) × IsEndOf r.work ended
 TellsEnd _ r = ⊥
 
--- what is reported of any: its number, how it ended, and whether its device is asked again
+-- what is reported of any: its number, how it ended, whether its device is asked again, and how often it was asked
 abbrev pub Tells : Sent → WaitingRequest WaitingMessage Work → Type 0
-Tells (out.ToClient number client says datagram ended) r = (number ≡ r.number) × IsEndOf r.work ended
-Tells (out.Unanswered number why ended) r = (number ≡ r.number) × IsEndOf r.work ended
+Tells (out.ToClient number message says datagram ended) r = (number ≡ r.number) × IsEndOf r.work ended
+Tells (out.Unanswered number message why ended) r = (number ≡ r.number) × IsEndOf r.work ended
 Tells (out.ToDevice number device datagram again) r = (number ≡ r.number) × ((again ≡ true) ↔ IsAskedNow r.work)
-Tells (out.GivenUp number device) r = number ≡ r.number
+Tells (out.GivenUp number device times) r = (number ≡ r.number) × (times ≡ times_in r.work)
 Tells out.Nothing r = ⊤
 
 -- of a request that waits

@@ -234,7 +234,7 @@ ClientHappens old now before from datagram (client.Joins n) new = Accepts old no
 ClientHappens old now before from datagram _ new = GateStands now before new
 
 abbrev pub DeviceHappens : Gate → ℕ → List Happening → ℕ → List ℕ → DeviceTaken → Gate → Type 0
-DeviceHappens old now before number datagram (device.Answers n fault hidden) new =
+DeviceHappens old now before number datagram (device.Answers n says fault hidden) new =
     (p : PduParts) × Happens old now before (answered n number p datagram) new
 DeviceHappens old now before number datagram _ new = GateStands now before new
 
@@ -258,14 +258,14 @@ IsIdFrom old before number device from id = IsNextFree (slice_index_or (asks_in 
     × (open_ask number before ≡ Some (record { device = device; id = id; request = request })))
 
 abbrev pub SendHappens : Gate → ℕ → List Happening → Fresh → Sent → Gate → Type 0
-SendHappens old now before f (out.ToClient number to says datagram ended) new = (m : WaitingMessage) × (to ≡ m.client)
+SendHappens old now before f (out.ToClient number to says datagram ended) new = (m : WaitingMessage) × (to ≡ m)
     × Happens old now before (sent number m (answering_at old now f.salt) (answer_with says datagram)) new
 SendHappens old now before f (out.ToDevice number to datagram again) new = (id : ℕ) × (request : RequestPdu)
     × IsIdFrom old before number to f.ask_id id
     × Happens old now before (asked number to id request datagram.items) new
-SendHappens old now before f (out.Unanswered number why ended) new = (m : WaitingMessage)
+SendHappens old now before f (out.Unanswered number to why ended) new = (m : WaitingMessage) × (to ≡ m)
     × Happens old now before (unanswered number m (answering_at old now f.salt) why) new
-SendHappens old now before f (out.GivenUp number to) new = Happens old now before (given_up number to) new
+SendHappens old now before f (out.GivenUp number to times) new = Happens old now before (given_up number to) new
 SendHappens old now before f out.Nothing new = GateStands now before new
 
 -- a device is asked nothing

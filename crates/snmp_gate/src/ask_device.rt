@@ -6,7 +6,7 @@ ghost use Rattle.snmp_gate.specs.Counting.{CountsSent};
 ghost use Rattle.snmp_gate.specs.History.{Happening};
 ghost use Rattle.snmp_gate.specs.Sending.{IsAskedAt, IsOpenAt, MayAskAt};
 ghost use Rattle.snmp_gate.specs.Sending.{SetsAsked};
-ghost use Rattle.snmp_gate.specs.Told.{Tells};
+ghost use Rattle.snmp_gate.specs.Told.{Tells, times_in};
 ghost use Rattle.std.specs.List.{HoldsAt};
 ghost use Rattle.snmp_gate.specs.Bounds.{AreTimely, MayBeAsked};
 ghost use Rattle.snmp_gate.specs.Due.{HasEnded, IsTodo};
@@ -83,6 +83,17 @@ impl Gate {
             return None;
         }
         Some(id)
+    }
+
+    /// Returns how often the device was asked the same for the request at this place.
+    pub(crate) fn times_at(&self, place: usize) -> u32
+        requires { place < length self.now.requests.list.items }
+        ensures { HoldsAt (λ r. result ≡ times_in r.work) self.now.requests.list.items place }
+    {
+        match &self.requests.list[place].work {
+            Work::Open(waiting) => waiting.timer.times(),
+            Work::Ends(_) => 0,
+        }
     }
 
     /// Returns the datagram that asks this device for the request at this place, if it can be asked.

@@ -43,6 +43,8 @@ pub enum DeviceTaken {
     Answers {
         /// The number of the request.
         number: u64,
+        /// Its error-status and its error-index, whatever they are.
+        says: ResponseStatus,
         /// Why its bindings don't answer what was asked, if they don't. An answer with an error isn't looked at so.
         fault: Option<AnswerFault>,
         /// How many of its bindings are hidden: the request's message may not see their names. Of an answer to a Set
@@ -58,8 +60,8 @@ pub enum Sent {
     ToClient {
         /// The number of the request.
         number: u64,
-        /// The address of the client.
-        client: Vec<u8>,
+        /// The message.
+        message: WaitingMessage,
         /// The error-status and the error-index of the Response. None: the datagram is a Report.
         says: Option<ResponseStatus>,
         datagram: Vec<u8>,
@@ -80,6 +82,7 @@ pub enum Sent {
     Unanswered {
         /// The number of the request.
         number: u64,
+        message: WaitingMessage,
         why: Option<Refusal>,
         ended: EndedBy,
     },
@@ -89,6 +92,8 @@ pub enum Sent {
         number: u64,
         /// The number of the device, counted from 0.
         device: usize,
+        /// How often it was asked the same.
+        times: u32,
     },
     /// There is nothing to do now.
     Nothing,

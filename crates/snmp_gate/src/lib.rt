@@ -356,4 +356,5 @@ pub use set_answer::{ResponseStatus, set_outcome};
 pub use set_ask::{bindings_of, write_set_ask};
 pub use sets::{REMEMBERED, RememberedSet, RememberedSets, SETS_LIMIT, SetNote, set_digest};
 pub use timer::{Due, Timer, Turn};
+pub use waiting_message::WaitingMessage;
 pub use work::EndedBy;

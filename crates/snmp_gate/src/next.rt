@@ -181,32 +181,34 @@ fn end_of(work: &Work) -> EndedBy
 }
 
 /// Returns what goes out, of what becomes of a message.
-fn sent_by(number: u64, client: Vec<u8>, ended: EndedBy, reply: Reply) -> Sent
-    ensures is { IsSentBy number client ended reply result }
+fn sent_by(number: u64, message: WaitingMessage, ended: EndedBy, reply: Reply) -> Sent
+    ensures is { IsSentBy number message ended reply result }
     ensures something { result ≢ Sent.Nothing }
 {
     match reply {
         Reply::Responds { says, datagram } => Sent::ToClient {
             number,
-            client,
+            message,
             says: Some(says),
             datagram,
             ended,
         },
         Reply::Reports(datagram) => Sent::ToClient {
             number,
-            client,
+            message,
             says: None,
             datagram,
             ended,
         },
         Reply::Nothing | Reply::SilentDrop => Sent::Unanswered {
             number,
+            message,
             why: None,
             ended,
         },
         Reply::Refused(why) => Sent::Unanswered {
             number,
+            message,
             why: Some(why),
             ended,
         },
@@ -235,8 +237,8 @@ impl Gate {
     /// No salt may come twice (RFC 3826, section 3.1.2.1). `ask_id` is a number that didn't come before: the device is
     /// asked with this request-id, or with the next one with which it isn't asked.
     ///
-    /// What goes out tells whose request it is for, how that ended, and whether its device is asked the same again
-    /// (`told`).
+    /// What goes out tells whose request it is for, how that ended, whether its device is asked the same again, and how
+    /// often it was asked before it was given up (`told`).
     ///
     /// It returns `Nothing` only if no request has ended, and by time alone nothing is due for any (`idle`). Of each
     /// request it does what is due, however often it is called.
@@ -307,7 +309,7 @@ impl Gate {
         )?;
         let message = self.requests.answer(place);
         self.tell_set(&message, said_by(&reply));
-        Ok(sent_by(number, message.client, ended, reply))
+        Ok(sent_by(number, message, ended, reply))
     }
 
     /// Remembers what the Response to a Set says.
@@ -347,10 +349,15 @@ impl Gate {
     {
         let (device, number) = self.device_at(place);
         let asked = self.asked_at(place);
+        let times = self.times_at(place);
         let ending = self.given_up_at(place);
         self.requests.work(place, Work::Ends(ending));
         self.end_ask(device, asked);
-        Sent::GivenUp { number, device }
+        Sent::GivenUp {
+            number,
+            device,
+            times,
+        }
     }
 
     /// What a device is asked is given up.

@@ -1,17 +1,15 @@
-//! By which PDU a request asks, and in which context.
+//! By which PDU a request asks, and by which message.
 
-ghost use Rattle.snmp_incoming.specs.Answers.{given_of};
-ghost use Rattle.std.specs.Prelude.{◌≡◌, List, IfOk, MatchOption, Some, option_map, ℕ};
-ghost use Rattle.snmp_gate.specs.Messages.{question_given, question_in};
+ghost use Rattle.std.specs.Prelude.{◌≡◌, MatchOption, Some};
+ghost use Rattle.snmp_gate.specs.Messages.{question_in};
 ghost use Rattle.snmp_gate.specs.Question.{Question};
-ghost use Rattle.snmp_gate.specs.RequestTags.{IsNumberOfNone, IsRequestOf, IsTagOf, TellsContext};
+ghost use Rattle.snmp_gate.specs.RequestTags.{IsMessageOf, IsNumberOfNone, IsRequestOf, IsTagOf};
 
 use crate::gate::Gate;
 use crate::requests::WaitingRequest;
 use crate::viewing::pdu_of;
-use crate::waiting_message::{WaitingMessage, message_of};
+use crate::waiting_message::WaitingMessage;
 use crate::work::Work;
-use std::alloc::{AllocError, Global};
 
 /// Returns the place of the request with this number.
 fn place_of(requests: &[WaitingRequest<WaitingMessage, Work>], number: u64) -> Option<usize>
@@ -33,17 +31,6 @@ fn tag_of(message: &WaitingMessage) -> u8
     pdu_of(&taken).tag
 }
 
-/// Returns the message's contextName.
-fn context_of(alloc: Global, message: &WaitingMessage) -> Result<Vec<u8>, AllocError>
-    ensures { IfOk result
-        (λ context. (q : Question) × (question_in message.now ≡ Some q) × (context.items ≡ q.context)) }
-{
-    let taken = message.kept.taken();
-    let asked = message_of(message.client.as_slice(), &taken);
-    let context = Vec::from_slice(alloc, asked.context)?;
-    Ok(context)
-}
-
 impl Gate {
     /// Returns the tag of the PDU by which the messages of the request with this number ask (RFC 3416, section 3).
     /// None: no such request waits. It takes no memory.
@@ -56,17 +43,14 @@ impl Gate {
         Some(tag_of(&requests[place].first))
     }
 
-    /// Returns the contextName in which the messages of the request with this number ask (RFC 3412, section 6.8).
-    /// None: no such request waits. The error is out of memory.
-    pub fn request_context(&self, number: u64) -> Result<Option<Vec<u8>>, AllocError>
-        ensures { IfOk result (λ context. TellsContext self.now.requests.list.items number
-            (option_map (λ v. v.items) context)) }
+    /// Returns the first of the messages that ask the request with this number, and weren't answered. None: no such
+    /// request waits. It takes no memory.
+    pub fn request_message(&self, number: u64) -> Option<&WaitingMessage>
+        ensures { MatchOption result (IsNumberOfNone self.now.requests.list.items number)
+            (λ message. IsMessageOf self.now.requests.list.items number message.now) }
     {
         let requests = self.requests.requests();
-        let Some(place) = place_of(requests, number) else {
-            return Ok(None);
-        };
-        let context = context_of(self.alloc, &requests[place].first)?;
-        Ok(Some(context))
+        let place = place_of(requests, number)?;
+        Some(&requests[place].first)
     }
 }

@@ -35,7 +35,7 @@ use crate::hidden::hidden_in;
 use crate::named_task::NamedTask;
 use crate::onward::{AnswerTaken, Onward, after, fault_in, take_bulk, take_read};
 use crate::requests::WaitingRequest;
-use crate::set_answer::set_outcome;
+use crate::set_answer::{ResponseStatus, set_outcome};
 use crate::task::Task;
 use crate::viewing::{pdu_of, viewer_of};
 use crate::waiting_message::WaitingMessage;
@@ -265,10 +265,21 @@ fn is_of(work: &Work, device: &Device, community: &[u8]) -> bool
     }
 }
 
+/// Returns what an answer says of its request as a whole.
+fn said_in(answer: &Pdu<'_>) -> ResponseStatus
+    ensures { (result.status ≡ answer.now.second) × (result.index ≡ answer.now.third) }
+{
+    ResponseStatus {
+        status: answer.second,
+        index: answer.third,
+    }
+}
+
 impl Gate {
     /// Takes a datagram from the device of this number, counted from 0, at this moment, in milliseconds. Nothing is
-    /// sent. Of an answer without an error whose bindings don't answer what was asked it says why (`fits`), and of each
-    /// answer how many of its bindings the request's message may not see (`hidden`).
+    /// sent. Of each answer it says its error-status and its error-index, and of one without an error whose bindings
+    /// don't answer what was asked it says why (`fits`); and of each how many of its bindings the request's message may
+    /// not see (`hidden`).
     ///
     /// The error is out of memory. Then the datagram isn't taken, and may be taken again.
     pub fn take_device(
@@ -311,8 +322,10 @@ impl Gate {
             lateness,
         )?;
         self.asks[device].end(id);
+        let says = said_in(&answer.pdu);
         Ok(DeviceTaken::Answers {
             number,
+            says,
             fault,
             hidden,
         })

@@ -85,15 +85,22 @@ impl Timer {
         }
     }
 
+    /// Returns how often the device was asked the same.
+    pub fn times(self) -> u32
+        ensures { result ≡ times_asked self.turn }
+    {
+        match self.turn {
+            Turn::ToAsk => 0,
+            Turn::Asked { times, .. } => times,
+        }
+    }
+
     /// The device is asked now, the first time or again.
     pub fn ask(&mut self, now: u64)
         ensures began { self.new.began ≡ self.old.began }
         ensures turn { self.new.turn ≡ Turn.Asked now (once_more (times_asked self.old.turn)) }
     {
-        let times = match self.turn {
-            Turn::ToAsk => 0,
-            Turn::Asked { times, .. } => times,
-        };
+        let times = self.times();
         self.turn = Turn::Asked {
             at: now,
             times: times.saturating_add(1),

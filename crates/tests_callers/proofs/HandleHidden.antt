@@ -26,16 +26,16 @@ pub record LeavesToClient (old new : GateHeld) (before : List Happening) : Type 
 
 client_left : (old new : GateHeld) (now : ℕ) (before : List Happening) (f : Fresh) (what : Sent) (told : Result GateEvent CallFault) → told ≡ Ok event.ToClient → TellsSent what told new
     → SendHappens old.gate now before f what new.gate → LeavesToClient old new before
-client_left old new now before f (out.ToClient number client says datagram ended) told is tells happens = record {
-  client = client;
+client_left old new now before f (out.ToClient number message says datagram ended) told is tells happens = record {
+  client = message.client;
   datagram = datagram;
   client_is = tells.2.0;
   message_is = tells.2.1;
-  hides = to_client old.gate new.gate now before f (out.ToClient number client says datagram ended) number client says datagram ended refl happens;
+  hides = to_client old.gate new.gate now before f (out.ToClient number message says datagram ended) number message says datagram ended refl happens;
 }
 client_left old new now before f (out.ToDevice number to datagram again) told is tells happens = let e = sym is ∙ tells.0 in cc e
-client_left old new now before f (out.Unanswered number why ended) told is tells happens = let e = sym is ∙ tells.0 in cc e
-client_left old new now before f (out.GivenUp number to) told is tells happens = let e = sym is ∙ tells.0 in cc e
+client_left old new now before f (out.Unanswered number message why ended) told is tells happens = let e = sym is ∙ tells.0 in cc e
+client_left old new now before f (out.GivenUp number to times) told is tells happens = let e = sym is ∙ tells.0 in cc e
 client_left old new now before f out.Nothing told is tells happens = let e = sym is ∙ tells.0 in cc e
 
 pub leaves_to_client : (old new : GateHeld) (now : ℕ) (salt : List ℕ) (ask_id : ℕ) (told : Result GateEvent CallFault) → told ≡ Ok event.ToClient → SendsNext old now salt ask_id told new
@@ -58,9 +58,9 @@ device_left old new now before f (out.ToDevice number to datagram again) told is
   message_is = tells.3.1;
   hides = subst (λ (n : ℕ). KeepsHidden old.gate before (Device n datagram)) (sym tells.2) (to_device old.gate new.gate now before f (out.ToDevice number to datagram again) number to datagram again refl happens);
 }
-device_left old new now before f (out.ToClient number client says datagram ended) told is tells happens = let e = sym is ∙ tells.0 in cc e
-device_left old new now before f (out.Unanswered number why ended) told is tells happens = let e = sym is ∙ tells.0 in cc e
-device_left old new now before f (out.GivenUp number to) told is tells happens = let e = sym is ∙ tells.0 in cc e
+device_left old new now before f (out.ToClient number message says datagram ended) told is tells happens = let e = sym is ∙ tells.0 in cc e
+device_left old new now before f (out.Unanswered number message why ended) told is tells happens = let e = sym is ∙ tells.0 in cc e
+device_left old new now before f (out.GivenUp number to times) told is tells happens = let e = sym is ∙ tells.0 in cc e
 device_left old new now before f out.Nothing told is tells happens = let e = sym is ∙ tells.0 in cc e
 
 pub leaves_to_device : (old new : GateHeld) (now : ℕ) (salt : List ℕ) (ask_id : ℕ) (told : Result GateEvent CallFault) → told ≡ Ok event.ToDevice → SendsNext old now salt ask_id told new

@@ -1,7 +1,7 @@
 -- What is reported of a request has nothing hidden, and what is asked neither.
 use Rattle.std.specs.Prelude.{◌≡◌, ◌⊎◌, ◌<◌, ℕ, Bool, pos, List, All, Contains, Option, slice_index_or}
 use Rattle.std.specs.Global.{Vec}
-use Rattle.std.proofs.Common.{inl, inr, sym, subst, arith}
+use Rattle.std.proofs.Common.{ap, inl, inr, sym, subst, arith}
 use Rattle.std.proofs.lemmas.List.Elements.{All-weaker, All-contains_itself, AllZip-get_or, length_all_zip}
 use Rattle.snmp_msg.specs.Variables.{Variable, variables_of}
 use Rattle.snmp_msg.specs.declared.pdu_type.PduType.TheVariants.{GetNextRequest}
@@ -25,6 +25,7 @@ use Rattle.snmp_gate.specs.declared.gate.Gate.{Gate}
 use Rattle.snmp_gate.specs.declared.gate.Sent.{Sent}
 use Rattle.snmp_gate.specs.declared.gate.Sent.TheVariants as out
 use Rattle.snmp_gate.specs.declared.set_answer.ResponseStatus.{ResponseStatus}
+use Rattle.snmp_gate.specs.declared.waiting_message.WaitingMessage.{WaitingMessage}
 use Rattle.tests_callers.specs.declared.gateways.Out.TheVariants.{Client, Device}
 use Rattle.tests_callers.specs.Hidden.{AsksSeen, IsOwnOrSeen, KeepsHidden, is_own, is_empty, is_seen, gets, walks}
 use Rattle.tests_callers.specs.Hidden as hidden
@@ -66,12 +67,12 @@ answers by tables q said again Cause g answer (inl (told, sent, (status, inl (no
 answers by tables q said again Cause g answer (inl (told, sent, (status, inr (inl (some, own))))) = inr (told, sent.0, of_own tables q said.variables told.variables own)
 answers by tables q said again Cause g answer (inl (told, sent, (status, inr (inr (big, none))))) = inr (told, sent.0, subst (All (IsOwnOrSeen (seen_in tables q) (variables_of q.list) said.variables)) (sym none) (λ k d lt. absurd (omega (arith, lt))))
 
-client_shown : (old new : Gate) (now : ℕ) (before : List Happening) (f : Fresh) (number : ℕ) (to : Vec ℕ) (says : Option ResponseStatus) (datagram : Vec ℕ) (ended : EndedBy) → SendHappens old now before f (out.ToClient number to says datagram ended) new → KeepsHidden old before (Client to datagram)
+client_shown : (old new : Gate) (now : ℕ) (before : List Happening) (f : Fresh) (number : ℕ) (to : WaitingMessage) (says : Option ResponseStatus) (datagram : Vec ℕ) (ended : EndedBy) → SendHappens old now before f (out.ToClient number to says datagram ended) new → KeepsHidden old before (Client to.client datagram)
 client_shown old new now before f number to says datagram ended (m, same, happens) =
     let mediated = happens.lawful.mediated in
-    (number, m, answering_at old now f.salt, same, mediated.0, λ q asks. answers (answering_at old now f.salt) old.agent.tables q (told_in number before) mediated.1.0 (IsCauseFor old.agent.engine old.agent.tables old.devices.list.items before number q) m.kept (answer_with says datagram) (mediated.1.2 q asks))
+    (number, m, answering_at old now f.salt, ap (λ (x : WaitingMessage). x.client) same, mediated.0, λ q asks. answers (answering_at old now f.salt) old.agent.tables q (told_in number before) mediated.1.0 (IsCauseFor old.agent.engine old.agent.tables old.devices.list.items before number q) m.kept (answer_with says datagram) (mediated.1.2 q asks))
 
-pub to_client : (old new : Gate) (now : ℕ) (before : List Happening) (f : Fresh) (sent : Sent) (number : ℕ) (to : Vec ℕ) (says : Option ResponseStatus) (datagram : Vec ℕ) (ended : EndedBy) → sent ≡ out.ToClient number to says datagram ended → SendHappens old now before f sent new → KeepsHidden old before (Client to datagram)
+pub to_client : (old new : Gate) (now : ℕ) (before : List Happening) (f : Fresh) (sent : Sent) (number : ℕ) (to : WaitingMessage) (says : Option ResponseStatus) (datagram : Vec ℕ) (ended : EndedBy) → sent ≡ out.ToClient number to says datagram ended → SendHappens old now before f sent new → KeepsHidden old before (Client to.client datagram)
 to_client old new now before f sent number to says datagram ended is happens =
     client_shown old new now before f number to says datagram ended (subst (λ s. SendHappens old now before f s new) is happens)
 

@@ -32,11 +32,11 @@ pub fn send(gate: &mut Gate, now: u64, salt: [u8; 8], ask_id: u32) -> Result<Out
     match sent {
         Sent::ToClient {
             number: _,
-            client,
+            message,
             says: _,
             datagram,
             ended: _,
-        } => Ok(Out::Client(client, datagram)),
+        } => Ok(Out::Client(message.client, datagram)),
         Sent::ToDevice {
             number: _,
             device,

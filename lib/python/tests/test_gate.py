@@ -120,15 +120,24 @@ class Gateway(unittest.TestCase):
             self.assertEqual(self.gate.take_client(MOMENT, b"client", asked), event)
             self.assertEqual(self.gate.pdu(), Pdu.GET)
 
-    def test_a_message_has_its_context(self):
+    def test_a_request_has_its_client(self):
         self.learn()
         with self.assertRaises(snmpsec.NothingTaken):
-            self.gate.context()
-        for number, context in (2, b"pdu"), (3, b"plant 7"), (4, b""), (5, bytes(range(200))):
-            asked = self.ask(number, Level.AUTH_PRIV, context=context)
+            self.gate.asker()
+        for number, client in (2, b"one"), (3, b""), (4, bytes(range(200))):
+            asked = self.ask(number, Level.AUTH_PRIV)
             for event in (GateEvent.BEGINS, GateEvent.JOINS):
-                self.assertEqual(self.gate.take_client(MOMENT, b"client", asked), event)
-                self.assertEqual(self.gate.context(), context)
+                self.assertEqual(self.gate.take_client(MOMENT, client, asked), event)
+                self.assertEqual(self.gate.asker(), client)
+                self.assertEqual(self.gate.lines(), [])
+
+    def test_a_request_of_no_device_has_a_line(self):
+        self.learn()
+        self.gate.take_client(MOMENT, b"client", self.ask(2, Level.AUTH_PRIV, context=b"plant 7"))
+        self.assertEqual(self.gate.next(MOMENT, 3, 3).event, GateEvent.TO_CLIENT)
+        self.assertEqual(self.gate.lines("192.0.2.9:7"), ["unhandled, user ann from 192.0.2.9:7, context plant\\x207: snmpUnknownContexts"])
+        self.assertEqual(self.gate.take_client(MOMENT, b"client", b"0"), snmpsec.Refusal.NOT_MESSAGE)
+        self.assertEqual(self.gate.lines("192.0.2.9:7", b"0"), ["refused 1 NOT_MESSAGE from 192.0.2.9:7 user (none) (not authenticated)"])
 
     def test_bindings_that_are_hidden_are_counted(self):
         self.learn()

@@ -164,6 +164,7 @@ pub struct GateInfo {
     pub ended: u64,
     pub unhandled: u64,
     pub again: u64,
+    pub times: u64,
 }
 
 #[repr(C)]
@@ -506,9 +507,21 @@ extern "C" {
         out_len: usize,
         written: *mut usize,
     ) -> i32;
-    pub fn snmpsec_gate_context(
+    pub fn snmpsec_gate_asker(
         gate: *mut Opaque,
         request: u64,
+        out: *mut u8,
+        out_len: usize,
+        written: *mut usize,
+    ) -> i32;
+    pub fn snmpsec_gate_lines(gate: *mut Opaque, kinds: *mut u32) -> i32;
+    pub fn snmpsec_gate_line(
+        gate: *mut Opaque,
+        kind: u32,
+        client: *const u8,
+        client_len: usize,
+        datagram: *const u8,
+        datagram_len: usize,
         out: *mut u8,
         out_len: usize,
         written: *mut usize,

@@ -2,11 +2,11 @@
 
 use crate::agent::{told, Counters, Counts};
 use crate::calls::{
-    self, snmpsec_datagram_user, snmpsec_gate_client, snmpsec_gate_context, snmpsec_gate_counters,
+    self, snmpsec_datagram_user, snmpsec_gate_asker, snmpsec_gate_client, snmpsec_gate_counters,
     snmpsec_gate_counts, snmpsec_gate_due, snmpsec_gate_fault, snmpsec_gate_free,
-    snmpsec_gate_may_notify, snmpsec_gate_message, snmpsec_gate_new, snmpsec_gate_next,
-    snmpsec_gate_numbers, snmpsec_gate_read, snmpsec_gate_setting, snmpsec_gate_take_client,
-    snmpsec_gate_take_device, Opaque,
+    snmpsec_gate_line, snmpsec_gate_lines, snmpsec_gate_may_notify, snmpsec_gate_message,
+    snmpsec_gate_new, snmpsec_gate_next, snmpsec_gate_numbers, snmpsec_gate_read,
+    snmpsec_gate_setting, snmpsec_gate_take_client, snmpsec_gate_take_device, Opaque,
 };
 use crate::fault::{done, refusal_of, Error, Refusal};
 use crate::held::copied;
@@ -423,15 +423,43 @@ impl Gate {
         copied(|out, len, written| unsafe { snmpsec_gate_client(self.at(), out, len, written) })
     }
 
-    /// The contextName in which the messages of this request ask, if it waits.
-    pub fn context(&self, request: u64) -> Result<Option<Vec<u8>>, Error> {
+    /// The client that asks this request, if it waits.
+    pub fn asker(&self, request: u64) -> Result<Option<Vec<u8>>, Error> {
         let said = copied(|out, len, written| unsafe {
-            snmpsec_gate_context(self.at(), request, out, len, written)
+            snmpsec_gate_asker(self.at(), request, out, len, written)
         });
         match said {
             Err(Error::NothingTaken) => Ok(None),
             other => other.map(Some),
         }
+    }
+
+    /// What a log may have of the last call, mostly nothing. `client` is the client's address as a text, and `datagram`
+    /// what the call took. The words are for people, and may change.
+    pub fn lines(&self, client: &str, datagram: &[u8]) -> Result<Vec<String>, Error> {
+        let mut kinds = 0;
+        done(unsafe { snmpsec_gate_lines(self.at(), &mut kinds) })?;
+        let of_last = (0..32).filter(|bit| kinds >> bit & 1 == 1);
+        of_last
+            .map(|bit| self.line(1 << bit, client, datagram))
+            .collect()
+    }
+
+    fn line(&self, kind: u32, client: &str, datagram: &[u8]) -> Result<String, Error> {
+        let octets = copied(|out, len, written| unsafe {
+            snmpsec_gate_line(
+                self.at(),
+                kind,
+                client.as_ptr(),
+                client.len(),
+                datagram.as_ptr(),
+                datagram.len(),
+                out,
+                len,
+                written,
+            )
+        })?;
+        Ok(String::from_utf8_lossy(&octets).into_owned())
     }
 
     /// How many requests wait.

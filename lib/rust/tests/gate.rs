@@ -105,10 +105,10 @@ fn a_request_goes_to_its_device_and_back() {
         };
         assert_eq!(pdu, Pdu::GetRequest as u8);
         assert_eq!(
-            both.gate.context(number).unwrap().as_deref(),
-            Some(b"pdu".as_slice())
+            both.gate.asker(number).unwrap().as_deref(),
+            Some(b"client".as_slice())
         );
-        assert_eq!(both.gate.context(number + 1), Ok(None));
+        assert_eq!(both.gate.asker(number + 1), Ok(None));
         let joins = ClientTaken::Joins {
             request: number,
             pdu,
@@ -146,6 +146,8 @@ fn a_request_goes_to_its_device_and_back() {
             both.gate.take_device(NOW, 0, b"junk"),
             Ok(DeviceTaken::Unreadable)
         );
+        let line = "device pdu sends a datagram that isn't a Response of SNMPv2c";
+        assert_eq!(both.gate.lines("", b"junk"), Ok(vec![line.to_string()]));
         for n in 1..3 {
             let Some(Sent::ToClient {
                 client,

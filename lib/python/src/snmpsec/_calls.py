@@ -174,6 +174,7 @@ class GateInfo(ctypes.Structure):
         ("ended", c_uint64),
         ("unhandled", c_uint64),
         ("again", c_uint64),
+        ("times", c_uint64),
     ]
 
 
@@ -305,7 +306,14 @@ SIGNATURES = {
     "gate_due": (c_int, [c_void_p, POINTER(c_uint64)]),
     "gate_message": (c_int, [c_void_p, POINTER(c_char), c_size_t, POINTER(c_size_t)]),
     "gate_client": (c_int, [c_void_p, POINTER(c_char), c_size_t, POINTER(c_size_t)]),
-    "gate_context": (c_int, [c_void_p, c_uint64, POINTER(c_char), c_size_t, POINTER(c_size_t)]),
+    "gate_asker": (c_int, [c_void_p, c_uint64, POINTER(c_char), c_size_t, POINTER(c_size_t)]),
+    "gate_lines": (c_int, [c_void_p, POINTER(Written)]),
+    "gate_line": (
+        c_int,
+        [
+            c_void_p, c_uint, c_char_p, c_size_t, c_char_p, c_size_t, POINTER(c_char), c_size_t, POINTER(c_size_t),
+        ],
+    ),
     "gate_numbers": (c_int, [c_void_p, POINTER(GateInfo)]),
     "gate_counters": (c_int, [c_void_p, POINTER(Counters)]),
     "gate_counts": (c_int, [c_void_p, POINTER(Counts)]),

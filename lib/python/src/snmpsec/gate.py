@@ -189,9 +189,17 @@ class Gate(_Counting):
         """By which PDU the message asks that the last call took, where that was BEGINS or JOINS."""
         return Pdu(self._numbers().pdu)
 
-    def context(self) -> bytes:
-        """The contextName in which the message asks that the last call took, where that was BEGINS or JOINS."""
-        return _copied(self._call, "context", self._numbers().request)
+    def asker(self) -> bytes:
+        """The client that asks the request that the last call was about, while that waits."""
+        return _copied(self._call, "asker", self._numbers().request)
+
+    def lines(self, client: str = "", datagram: Buffer = b"") -> List[str]:
+        """What a log may have of the last call, mostly nothing. `client` is the client's address as a text, and `datagram` what the call took. The words
+        are for people, and may change."""
+        kinds = _calls.Written()
+        _done(self._call("lines", ctypes.byref(kinds)))
+        words = _octets(client.encode(), datagram)
+        return [_copied(self._call, "line", 1 << bit, *words).decode() for bit in range(32) if kinds.value >> bit & 1]
 
     def take_device(self, now: int, device: int, datagram: Buffer) -> GateEvent:
         """Takes a datagram of the device at this position, from 0."""

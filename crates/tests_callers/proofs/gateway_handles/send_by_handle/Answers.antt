@@ -20,7 +20,8 @@ device_told at (note.Response says ended) = refl
 device_told at (note.Report ended) = refl
 device_told at (note.Unanswered ended) = refl
 device_told at (note.Asked again) = refl
-device_told at (note.Answer fault hidden) = refl
+device_told at (note.GivenUp times) = refl
+device_told at (note.Answer says fault hidden) = refl
 
 pub returns-in-Ok-message : goal.returns-in-Ok-message
 returns-in-Ok-message c = λ since before past stands.

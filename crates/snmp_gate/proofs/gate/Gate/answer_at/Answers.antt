@@ -35,7 +35,7 @@ returns-clause-happens c since ask_id before later stands =
       next = ap (λ (rs : WaitingRequests WaitingMessage Work). rs.next) c.tell_set.ensures.same.requests ∙ c.answer-message.ensures.next;
       answer = subst (λ (rs : WaitingRequests WaitingMessage Work). IsAnswered (groups_of g.requests.list.items) c.args.place m (groups_of rs.list.items)) (sym c.tell_set.ensures.same.requests) c.answer-message.ensures.answered;
     } in
-    reply_happens g c.tell_set.new.self since c.args.now before c.args.place (fresh c.args.salt ask_id) r m m.client c.end_of-ended.result c.in_ok-reply.reply c.sent_by.result later c.requires.place c.index-request.ensures
+    reply_happens g c.tell_set.new.self since c.args.now before c.args.place (fresh c.args.salt ask_id) r m m c.end_of-ended.result c.in_ok-reply.reply c.sent_by.result later c.requires.place c.index-request.ensures
     left refl c.in_ok-reply.ensures.sent c.sent_by.ensures.is c.tell_set.ensures.same.asks
     (subst (λ (s : Option ResponseStatus). IsToldOf m s g.sets.sets.items c.tell_set.new.self.sets.sets.items) c.said_by.ensures c.tell_set.ensures.told) c.in_ok-reply.ensures.left c.in_ok-reply.ensures.short stands
 
@@ -64,4 +64,4 @@ pub returns-clause-told : goal.returns-clause-told
 returns-clause-told c =
     let r = c.index-request.result.now in
     at_read c.args.self.now.requests.list.items (TellsEnd c.sent_by.result) c.args.place r c.requires.place c.index-request.ensures
-    (sent_tells r.number c.answer-message.result.client c.end_of-ended.result c.in_ok-reply.reply c.sent_by.result r c.sent_by.ensures.is refl c.end_of-ended.ensures)
+    (sent_tells r.number c.answer-message.result c.end_of-ended.result c.in_ok-reply.reply c.sent_by.result r c.sent_by.ensures.is refl c.end_of-ended.ensures)

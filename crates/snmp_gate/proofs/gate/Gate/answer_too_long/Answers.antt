@@ -43,8 +43,8 @@ too_long_stands g requests place was e ends first responds next worked since now
 send_same : (g : Gate) (requests : WaitingRequests WaitingMessage Work) (now : ℕ) (before : List Happening) (f : Fresh) (what : Sent) (new : Gate) → SendHappens (record g { requests = requests }) now before f what new → SendHappens g now before f what new
 send_same g requests now before f (out.ToClient n to says w ended) new h = (h.0, h.1, record { lawful = h.2.lawful; allowed = h.2.allowed; stands = h.2.stands })
 send_same g requests now before f (out.ToDevice n to w again) new h = (h.0, h.1, h.2, record { lawful = h.3.lawful; allowed = h.3.allowed; stands = h.3.stands })
-send_same g requests now before f (out.Unanswered n why ended) new h = (h.0, record { lawful = h.1.lawful; allowed = h.1.allowed; stands = h.1.stands })
-send_same g requests now before f (out.GivenUp n to) new h = record { lawful = h.lawful; allowed = h.allowed; stands = h.stands }
+send_same g requests now before f (out.Unanswered n to why ended) new h = (h.0, h.1, record { lawful = h.2.lawful; allowed = h.2.allowed; stands = h.2.stands })
+send_same g requests now before f (out.GivenUp n to times) new h = record { lawful = h.lawful; allowed = h.allowed; stands = h.stands }
 send_same g requests now before f out.Nothing new h = h
 
 -- what is turned and turned back is as it was

@@ -31,4 +31,4 @@ returns-clause-stays c =
     c.end_ask.ensures.bounded
 
 pub returns-clause-told : goal.returns-clause-told
-returns-clause-told c r = sym (c.device_at-device.ensures r).0
+returns-clause-told c r = (sym (c.device_at-device.ensures r).0, c.times_at-times.ensures r)

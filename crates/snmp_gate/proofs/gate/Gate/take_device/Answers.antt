@@ -141,6 +141,7 @@ returns-clause-fits c =
       community = c.in-Some.answer.community.now;
       answer = answer;
       is_answer = c.in-Some.ensures;
+      says_is = c.said_in-says.ensures;
       id = id;
       id_is = at.id_is;
       place = place;
