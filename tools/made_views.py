@@ -1,5 +1,5 @@
-"""Views of few arcs that are made from a seed, and the program that is asked about them: what check-next,
-check-responder and check-walk share.
+"""Views of few arcs that are made from a seed, and the program that is asked about them: what check-next and check-walk
+share.
 
 A view has 1 to 8 family rows whose subtrees have 1 to 4 arcs of 0 to 2, with masks: rows at random, holes in holes,
 excluded siblings, and rows of one length whose wildcards cover one another."""

@@ -1,4 +1,1 @@
-pub mod Mapped
-pub mod Nearest
-pub mod Rows
 pub mod OneAnswer

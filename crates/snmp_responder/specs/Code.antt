@@ -1,15 +1,8 @@
 -- What the values of the code say.
-use Rattle.std.specs.Prelude.{ℕ, List, map}
+use Rattle.std.specs.Prelude.{ℕ, List}
 use Rattle.vacm_core.specs.declared.access.ViewType.TheVariants.{Read}
 use Rattle.vacm_next.specs.Next.{Sees}
-use Rattle.snmp_msg.specs.Variables.{variable_of}
-use Rattle.snmp_responder.specs.declared.instrumentation.Instrumentation.{Instrumentation}
 use Rattle.snmp_responder.specs.declared.viewer.Viewer.{Viewer}
-use Rattle.snmp_responder.specs.Instrumentation.{Known}
-
--- what the device knows
-abbrev pub known_of : Instrumentation → Known
-known_of device = record { objects = device.objects.now; variables = map variable_of device.variables.now }
 
 -- such messages may see the variable of this name, in the read view
 unfoldable pub seen_by : Viewer → List ℕ → Type 0

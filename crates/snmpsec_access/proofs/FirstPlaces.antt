@@ -1,9 +1,7 @@
 -- Where the first row of each user's name stands, from the last row to the first.
-use Rattle.std.proofs.Common.{◌≡◌, ℕ, ◌<◌, ◌≤◌, suc, Bool, true, false, cond, List, ◌∷◌, length, get_or, drop, slice_get, Option, Some, None, refl, sym, ◌∙◌, ap, arith}
-use Rattle.std.specs.Prelude.{find, IfSome, MatchOption}
-use Rattle.std.specs.Option.{option_and_then, option_copied}
-use Rattle.std.specs.List.{HoldsAt}
-use Rattle.std.proofs.lemmas.Option.{slice_get_read, slice_get_past}
+use Rattle.std.proofs.Common.{◌≡◌, ℕ, ◌<◌, ◌≤◌, suc, Bool, true, false, cond, List, ◌∷◌, length, get_or, drop, slice_get, Option, Some, None, sym, ◌∙◌, ap, arith}
+use Rattle.std.specs.Prelude.{find}
+use Rattle.std.specs.Option.{option_and_then}
 use Rattle.std.specs.Map.{lookup}
 use Rattle.std.specs.Borrow.{Bor}
 use Rattle.std.specs.Ordering.{is_eq, nat_cmp}
@@ -41,9 +39,3 @@ places_more users before after key at next row here further updates named is the
     ∙ by_test users (is_eq (name_cmp key q)) (has_name q.now row) at row (place_of before q) (find (has_name q.now) (drop (suc at) users)) same is (so q ∙ ap (λ n. find (has_name q.now) (drop n users)) further)
     ∙ ap (λ (first : UserRow). find (has_name q.now) (first ∷ drop (suc at) users)) (sym there)
     ∙ ap (find (has_name q.now)) (sym (drop-cons users at row here))
-
--- what is read at a place
-pub read_at : (users : List UserRow) (at : ℕ) (found : Option (Bor UserRow)) → IfSome found (λ x. x.now ≡ get_or users at x.now)
-    → MatchOption found (length users ≤ at) (λ x. (at < length users) × HoldsAt (λ y. x.now ≡ y) users at) → option_copied found ≡ slice_get users at
-read_at users at None is there = sym (slice_get_past users at there)
-read_at users at (Some x) is there = sym (slice_get_read users (length users) at x.now refl there.0 is)

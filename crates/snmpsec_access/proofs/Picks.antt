@@ -1,5 +1,5 @@
 -- Rows that are picked, a row at a time.
-use Rattle.std.proofs.Common.{◌≡◌, ℕ, zero, suc, ◌+◌, ◌<◌, Bool, List, [], ◌∷◌, ◌++◌, length, get_or, take, sym, ap, ◌∙◌, subst, refl, inl, inr, arith}
+use Rattle.std.proofs.Common.{◌≡◌, ℕ, zero, suc, ◌+◌, ◌<◌, List, [], ◌∷◌, ◌++◌, length, get_or, take, sym, ap, ◌∙◌, subst, refl, inl, inr, arith}
 use Rattle.std.specs.Prelude.{Contains, if◌then◌else◌}
 use Rattle.std.specs.Borrow.{Bor}
 use Rattle.std.specs.Ordering.{is_lt}
@@ -9,9 +9,8 @@ use Rattle.std.proofs.lemmas.List.Elements.{Contains-push_cases}
 use Rattle.vacm_core.specs.declared.rows.FamilyRow.{FamilyRow}
 use Rattle.vacm_core.specs.Allowed.{family_order}
 use Rattle.vacm_core.specs.View.{IsExact, AreExact}
-use Rattle.snmpsec_access.specs.Rising.{AreLeft, IsNext, rows_at, saying}
-use Rattle.snmpsec_access.proofs.Begins.{begins, fits_exact}
-use Rattle.snmpsec_access.proofs.Shortens.{saying_more, left_out, kept_more}
+use Rattle.snmpsec_access.specs.Rising.{AreLeft, IsNext, rows_at}
+use Rattle.snmpsec_access.proofs.Shortens.{left_out, kept_more}
 use Rattle.snmpsec_access.proofs.Decides.{above_earlier}
 
 -- ---- references and what they point to
@@ -53,9 +52,6 @@ sorted_now items sorted k d low within =
     some (x ∷ xs) k within = x
 
 -- ---- what rows without a wildcard say
-
-pub says_more : (rows : List FamilyRow) (row : FamilyRow) (variable : List ℕ) (b : Bool) → IsExact row → begins row.subtree variable ≡ b → saying (rows ++ row ∷ []) variable ≡ (if b then row.include else saying rows variable)
-says_more rows row variable b exact e = saying_more rows row variable ∙ ap (λ b. if b then row.include else saying rows variable) (fits_exact row variable exact ∙ e)
 
 pub exact_more : (rows : List FamilyRow) (row : FamilyRow) → IsExact row → AreExact rows → AreExact (rows ++ row ∷ [])
 exact_more rows row exact all r c = elim (Contains-push_cases rows row r c) [

@@ -23,9 +23,6 @@ module _ (P : Asker → Type 0) where
   pub sees : (a : Asker) (before after : List Asker) → P a → after ≡ before ++ a ∷ [] → GoesOn P (a ∷ []) before after
   sees a before after may joined = record { seeing = a ∷ []; those = inl (may, ([], refl, refl)); joined = joined }
 
-  pub sees_not : (a : Asker) (before : List Asker) → ¬ P a → GoesOn P (a ∷ []) before before
-  sees_not a before may_not = record { seeing = []; those = inr (may_not, refl); joined = sym (append-nil before) }
-
   pub goes_on : (xs ys before between after : List Asker) → GoesOn P xs before between → GoesOn P ys between after → GoesOn P (xs ++ ys) before after
   goes_on xs ys before between after g h = record {
     seeing = g.seeing ++ h.seeing;

@@ -6,8 +6,8 @@
 //! if a row failed, and 2 if a file can't be read or a row can't be understood.
 #![tactic(auto)]
 
+mod asker;
 mod ber;
-mod device;
 mod octets;
 mod row;
 mod rows;

@@ -1,7 +1,6 @@
 //! Files of rows, and how many rows of each pass.
 
 use crate::ber::Elements;
-use crate::device::Device;
 use crate::row::{Fault, Row, words_of};
 use crate::subjects::Subject;
 use crate::walk::Walks;
@@ -154,7 +153,6 @@ pub fn check_named<R: Files + Print + AllocGlobal>(
 ) -> Result<Count, Error> {
     match name {
         "ber.rows" => check_file::<R, Elements>(rt, file),
-        "device.rows" => check_file::<R, Device>(rt, file),
         "walk.rows" => check_file::<R, Walks>(rt, file),
         _ => bail!("{file}: no subject has this name"),
     }

@@ -1,6 +1,6 @@
 //! Dialogues with a device: what it is asked, what its answers are, and what the Response holds.
 
-use crate::device::{Asker, Shown, asker_in, load};
+use crate::asker::{Asker, Shown, asker_in, load};
 use crate::row::{Fault, Row, put};
 use crate::subjects::Subject;
 use snmp_ber::Oid;

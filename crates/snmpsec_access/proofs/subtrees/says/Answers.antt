@@ -4,9 +4,6 @@ use Rattle.snmpsec_access.specs.Rising.{rows_at}
 use Rattle.snmpsec_access.proofs.Decides.{said_by_best, said_by_none}
 use Rattle.snmpsec_access.proofs.subtrees.says.Goals as goal
 
-pub loop-left-init : goal.loop-left-init
-loop-left-init c = (omega arith, λ row there long fits. let l = fits.long in omega arith)
-
 pub loop-left-preserved : goal.loop-left-preserved
 loop-left-preserved c =
     let rows = rows_at c.args.rows.now in

@@ -6,12 +6,6 @@ use Rattle.usm_users.specs.Rows.{has_name}
 use Rattle.snmpsec_access.proofs.FirstPlaces.{places_none, places_more}
 use Rattle.snmpsec_access.proofs.users.first_places.Goals as goal
 
-pub rows-init : goal.rows-init
-rows-init c = record {
-  first = λ name. places_none c.args.users.now c.new-places.result name c.new-places.ensures.empty;
-  most = omega arith;
-}
-
 pub rows-preserved : goal.rows-preserved
 rows-preserved c =
     let users = c.args.users.now in
@@ -26,9 +20,3 @@ rows-preserved c =
           c.rows.invariant.first;
       most = omega (arith, most);
     }
-
-pub returns : goal.returns
-returns c =
-    let over = c.rows-test.false in
-    let zero : c.rows.at ≡ 0 = omega (arith, over) in
-    λ name. c.rows.invariant.first name ∙ ap (λ n. find (has_name name.now) (drop n c.args.users.now)) zero
