@@ -63,6 +63,21 @@ test_late() {
     end_own
 }
 
+# asked_beside SHARE: how many of 20 requests are answered beside 200 to a device that doesn't answer, of which SHARE may
+# wait at once and 16 in all
+asked_beside() {
+    write_own_config "waiting = 16" "waiting-per-device = $1"
+    begin_own "$programs/snmpsec-gate"
+    PYTHONPATH=$here/python/src python3 "$here/tests/silent_device.py" "$gate_port" 80001f8804676174652d32 pdu 'a "b\c' 20
+    end_own
+}
+
+# A device that doesn't answer takes no room from the others, beyond its share.
+test_silent_device() {
+    check "a silent device leaves room" "20 of 20" "$(asked_beside 8)"
+    check "without a share it takes all" 1 "$(($(asked_beside 16 | cut -d' ' -f1) < 20))"
+}
+
 # checked MODE: what --check says of the file with this mode
 checked() {
     chmod "$1" "$own/gate.toml"
@@ -121,6 +136,7 @@ else
     test_full_log
     test_lost
     test_late
+    test_silent_device
     test_check_of_file
     test_check_of_views
     test_units
