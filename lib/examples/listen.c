@@ -16,7 +16,7 @@
 #include <sys/socket.h>
 #include <time.h>
 
-enum { MOST_CONFIG = 16 << 20, MOST_REMEMBERED = 16384, MOST_SOURCES = 16 };
+enum { MOST_CONFIG = 16 << 20, MOST_REMEMBERED = 65536, MOST_SOURCES = 16 };
 
 /* Prints the names of the variables of what was reported last. */
 static void print_reported(snmpsec_listener *listener) {

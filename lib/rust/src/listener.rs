@@ -56,7 +56,7 @@ impl Default for Listening<'_> {
             clocks: NO_CLOCKS,
             least_level: None,
             sources: &[],
-            most: 16_384,
+            most: 65_536,
         }
     }
 }

@@ -18,7 +18,7 @@ from . import (NO_CLOCKS, Buffer, Clock, Info, Level, NothingTaken, Part, Refusa
 
 __all__ = ["Notified", "NotifyEvent", "Receiver"]
 
-_REMEMBERED = 1 << 14
+_REMEMBERED = 1 << 16
 
 
 class NotifyEvent(IntEnum):
