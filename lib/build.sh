@@ -52,7 +52,7 @@ for source in $(listed example_sources); do
     $cc -Wconversion "$@" -c "$here/$source" -o "$part"
     beside="$beside $part"
 done
-for program in agent poll; do
+for program in agent poll listen; do
     $cc -Wconversion "$@" $bound "$here/examples/$program.c" $beside $library -o "$out/$program"
 done
 gate=
@@ -68,7 +68,7 @@ $cc -shared "$@" $bound $library $names -o "$out/libsnmpsec.so.0"
 echo 'INPUT(-l:libsnmpsec.so.0)' > "$out/libsnmpsec.so"
 
 cc="$cc -I$here/src -I$here/examples"
-for test in calls manager_calls gate_calls forward_calls bindings keys exchange many kept hostile; do
+for test in calls manager_calls gate_calls forward_calls listener_calls bindings keys exchange many kept hostile; do
     checks="$here/tests/checks.c $out/words_of.o"
     $cc "$@" -Wl,--wrap=malloc,--wrap=realloc "$here/tests/$test.c" $checks $library -o "$out/$test"
 done

@@ -13,8 +13,9 @@
  * Secrets: what the library frees is wiped first, and so is the stack that its calls used. The caller wipes the
  * configuration that it handed in. Keys lie in memory as long as their handle does.
  *
- * Stack: the calls that read a configuration and those on a gateway or a forwarder need 52 KB of it, the two that free
- * another handle 24 KB, and any other 16 KB. So a thread with 64 KB can make each of them.
+ * Stack: the calls that read a configuration, those on a gateway or a forwarder, and those that take a datagram of a
+ * receiver of notifications or free it need 52 KB of it, the two that free another handle 24 KB, and any other 16 KB.
+ * So a thread with 64 KB can make each of them.
  *
  * Work: a datagram makes a call look at its own octets, and at a few rows. _take reads a datagram once, and hashes and
  * opens it once if its user has the keys; it finds the user by halving the table. _part and _message copy. _respond and
@@ -478,6 +479,75 @@ typedef struct snmpsec_sealing {
  * or `scoped` isn't one whole SEQUENCE; or a refusal: SNMPSEC_UNKNOWN_USER and SNMPSEC_UNSUPPORTED_LEVEL, at levels
  * with authentication; SNMPSEC_TOO_LARGE, SNMPSEC_OUT_OF_MEMORY. */
 SNMPSEC_CHECK int snmpsec_manager_seal(snmpsec_manager *manager, const snmpsec_sealing *sealing);
+
+/* ---- a receiver of notifications: Traps, and Informs, which it acknowledges
+ *
+ * It takes a Trap as a manager, and an Inform as the engine that it is sent to (RFC 3413, section 3.4). A notification
+ * is reported if and only if it is accepted; isn't below the least level; comes from one of the sources, if it has no
+ * authentication; is in its user's notify view, if the configuration gives the user's group one (RFC 3413, section
+ * 3.3); and wasn't reported before, as long as it can be accepted again. The program has the socket: it gives each
+ * datagram to _take, and sends _message, if there is one, to the datagram's sender. */
+
+typedef struct snmpsec_listener snmpsec_listener;
+
+/* least_level: a snmpsec_level, or 0: for each user the highest level for which the user has passwords. boots, started,
+ * engine: of the receiver's own engine, as of an agent. clocks: the saved clocks of senders, as of a manager, where the
+ * marks of version 1 were seen at clocks_moment. most: how many notifications are remembered at once: a Trap with
+ * authentication until its sender's time, as it is held here, is more than 150 seconds later, and any other one for 301
+ * seconds. When so many are remembered, no other one is reported. Moments are seconds from the beginning that the
+ * clocks have. */
+typedef struct snmpsec_listener_settings {
+    uint32_t least_level, boots;
+    uint64_t started, clocks_moment;
+    size_t most;
+    snmpsec_octets engine, clocks;
+} snmpsec_listener_settings;
+
+SNMPSEC_CALL void snmpsec_listener_free(snmpsec_listener *listener);
+/* Makes a receiver with the users and the access of a configuration. sources: the addresses from which notifications at
+ * SNMPSEC_NO_AUTH_NO_PRIV are taken, each by any octets that the program gives it. SNMPSEC_BAD_ARGUMENT,
+ * SNMPSEC_BAD_CLOCKS, SNMPSEC_BAD_CONFIGURATION (snmpsec_config_fault says where), SNMPSEC_OUT_OF_MEMORY; *out is then
+ * null. */
+SNMPSEC_CHECK int snmpsec_listener_new(const uint8_t *config, size_t config_len,
+                                       const snmpsec_listener_settings *settings, const snmpsec_octets *sources,
+                                       size_t sources_len, snmpsec_listener **out);
+
+/* What becomes of a datagram. */
+typedef enum snmpsec_listener_event {
+    /* it is reported, and kept for the calls below; the acknowledgement of an Inform is the message */
+    SNMPSEC_LISTENER_TRAP = 1, SNMPSEC_LISTENER_INFORM = 2,
+    /* it is refused, for *why; its Report, or the Response tooBig to an Inform, is the message, if there is one */
+    SNMPSEC_LISTENER_REFUSED = 3,
+    /* it is accepted, but it is no notification; is below the least level; has no authentication and comes from another
+     * address; isn't in its user's notify view */
+    SNMPSEC_LISTENER_OTHER_PDU = 19, SNMPSEC_LISTENER_LOW_LEVEL = 20, SNMPSEC_LISTENER_OTHER_ADDRESS = 21,
+    SNMPSEC_LISTENER_OUTSIDE_VIEW = 22,
+    /* it was reported before, and the message is the acknowledgement of an Inform; as many are remembered as may be */
+    SNMPSEC_LISTENER_COPY = 23, SNMPSEC_LISTENER_NO_ROOM = 24
+} snmpsec_listener_event;
+
+/* Takes a datagram from this address: SNMPSEC_OK; SNMPSEC_OUT_OF_MEMORY: nothing changes, and it may be taken again.
+ * Each salt is another one, also after a restart. *why is a refusal, or 0. */
+SNMPSEC_CHECK int snmpsec_listener_take(snmpsec_listener *listener, uint64_t now, const uint8_t *source,
+                                        size_t source_len, const uint8_t *datagram, size_t datagram_len, uint64_t salt,
+                                        snmpsec_listener_event *event, int *why);
+/* The notification that was reported last, as of an agent. SNMPSEC_NOTHING_TAKEN: the last datagram wasn't reported. */
+SNMPSEC_CHECK int snmpsec_listener_info(snmpsec_listener *listener, snmpsec_info *out);
+SNMPSEC_CHECK int snmpsec_listener_part(snmpsec_listener *listener, snmpsec_part part, uint8_t *out, size_t out_len,
+                                        size_t *written);
+/* What is to be sent to the sender of the datagram that was taken last: SNMPSEC_NOTHING_TAKEN, SNMPSEC_SHORT_BUFFER. */
+SNMPSEC_CHECK int snmpsec_listener_message(snmpsec_listener *listener, uint8_t *out, size_t out_len, size_t *written);
+
+/* How many datagrams weren't reported, by the reason: a refusal, or a snmpsec_listener_event from 19 on.
+ * SNMPSEC_BAD_ARGUMENT: no such reason. */
+SNMPSEC_CHECK int snmpsec_listener_count(snmpsec_listener *listener, uint32_t reason, uint64_t *out);
+
+/* The saved text of the clocks, which is the message then: SNMPSEC_SHORT_BUFFER, and *written says how much is
+ * wanted. */
+SNMPSEC_CHECK int snmpsec_listener_save(snmpsec_listener *listener, uint8_t *out, size_t out_len, size_t *written);
+/* What is held of a sender's engine, as of a manager. */
+SNMPSEC_CHECK int snmpsec_listener_clock(snmpsec_listener *listener, const uint8_t *engine, size_t engine_len,
+                                         snmpsec_clock *out);
 
 /* ---- a gateway: managers that speak SNMPv3 before devices that speak SNMPv2c (docs/gateway.md)
  *

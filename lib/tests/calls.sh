@@ -4,7 +4,8 @@ test_c() {
     mkdir -p "$work/corpus"
     tar xzf "$here/tests/corpus.tar.gz" -C "$work/corpus"
     for folder in $(printf '%s\n' "$OUT" "$programs" | sort -u); do
-        for name in calls manager_calls gate_calls forward_calls gate_parts bindings keys exchange many kept hostile; do
+        for name in calls manager_calls gate_calls forward_calls listener_calls gate_parts bindings keys exchange \
+            many kept hostile; do
             "$folder/$name" "$replay/config.toml" "$replay/captured.log" "$replay/printed.txt" > "$work/$name.out" 2>&1
             check "$name" 0 $?
             grep -m 9 FAILED "$work/$name.out"

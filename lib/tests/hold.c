@@ -26,12 +26,39 @@ static void must(int answer, int wanted, const char *what) {
     if (answer != wanted) { fprintf(stderr, "%s: %d\n", what, answer); _exit(1); }
 }
 
-static int ask(snmpsec_manager *manager, const uint8_t *engine, size_t engine_len, const char *user, uint32_t level, uint32_t id, const uint8_t *list,
-               size_t list_len) {
-    snmpsec_request r = {.pdu = SNMPSEC_GET_REQUEST, .message_id = id, .request_id = id, .level = (snmpsec_level)level, .engine = {engine, engine_len},
+static int ask_by(snmpsec_pdu pdu, snmpsec_manager *manager, const uint8_t *engine, size_t engine_len, const char *user, uint32_t level, uint32_t id,
+                  const uint8_t *list, size_t list_len) {
+    snmpsec_request r = {.pdu = pdu, .message_id = id, .request_id = id, .level = (snmpsec_level)level, .engine = {engine, engine_len},
                          .user = {(const uint8_t *)user, strlen(user)}, .context_engine = {engine, engine_len}, .list = {list, list_len}, .salt = id};
     return snmpsec_manager_request(manager, NOW, &r);
 }
+
+static int ask(snmpsec_manager *manager, const uint8_t *engine, size_t engine_len, const char *user, uint32_t level, uint32_t id, const uint8_t *list,
+               size_t list_len) {
+    return ask_by(SNMPSEC_GET_REQUEST, manager, engine, engine_len, user, level, id, list, list_len);
+}
+
+/* A receiver of notifications is made, takes an Inform of each user, and is freed: nothing of its keys stays. */
+static void listen_once(const uint8_t *config, size_t config_len, const uint8_t *engine, size_t engine_len, const char *engine_hex) {
+    char clocks[128];
+    snmpsec_listener *listener = NULL;
+    snmpsec_manager *sender = NULL;
+    snmpsec_listener_event event;
+    int clocks_len = snprintf(clocks, sizeof clocks, "%s%s 5 100 %d\n", SNMPSEC_NO_CLOCKS, engine_hex, NOW), why;
+    snmpsec_listener_settings of = {.boots = 5, .started = NOW - 100, .most = 9, .engine = {engine, engine_len},
+                                    .clocks = {(const uint8_t *)SNMPSEC_NO_CLOCKS, strlen(SNMPSEC_NO_CLOCKS)}};
+    must(snmpsec_listener_new(config, config_len, &of, NULL, 0, &listener), 0, "listener");
+    must(snmpsec_manager_new(config, config_len, (const uint8_t *)clocks, (size_t)clocks_len, NOW, &sender), 0, "sender");
+    for (uint32_t i = 0; i < 3; i++) {
+        must(ask_by(SNMPSEC_INFORM_REQUEST, sender, engine, engine_len, users[i], SNMPSEC_AUTH_PRIV, i, NULL, 0), 0, "inform");
+        must(snmpsec_manager_message(sender, message, sizeof message, &len), 0, "message");
+        must(snmpsec_listener_take(listener, NOW, NULL, 0, message, len, i, &event, &why), 0, "listener takes");
+        must(event, SNMPSEC_LISTENER_INFORM, "it is reported");
+    }
+    snmpsec_listener_free(listener);
+    snmpsec_manager_free(sender);
+}
+
 /* A user asks at a level, and once more where the boots and the time are learned by a report. */
 static void exchange(snmpsec_agent *agent, snmpsec_manager *manager, const uint8_t *engine, size_t engine_len, const char *user, uint32_t level) {
     static uint32_t id;
@@ -65,6 +92,7 @@ int main(int argc, char **argv) {
     /* the keys of before are wiped */
     must(snmpsec_agent_reconfigure(agent, config, (size_t)config_len), 0, "reconfigure");
     must(snmpsec_manager_new(config, (size_t)config_len, (const uint8_t *)SNMPSEC_NO_CLOCKS, strlen(SNMPSEC_NO_CLOCKS), NOW, &manager), 0, "manager");
+    listen_once(config, (size_t)config_len, engine, engine_len, argv[2]);
     snmpsec_wipe(config, 65536);
     wait_for_look("made\n");
     for (int i = 0; i < 3; i++)

@@ -16,7 +16,7 @@ import sys
 LIB = pathlib.Path(__file__).resolve().parents[1]
 sys.path.insert(0, str(LIB / "python/src"))
 import snmpsec  # noqa: E402
-from snmpsec import _calls, forward, gate  # noqa: E402
+from snmpsec import _calls, forward, gate, receiver  # noqa: E402
 
 HEADER = (LIB / "include/snmpsec.h").read_text()
 DECLARED = set(re.findall(r"\bsnmpsec_(\w+)\(", HEADER))
@@ -38,13 +38,15 @@ STRUCTS = {
     "ConfigPlace": "config_place",
     "GateInfo": "gate_info",
     "ForwardInfo": "forward_info",
+    "ListenerSettings": "listener_settings",
     "Notice": "notice",
     "Request": "request",
     "Sealing": "sealing",
     "Scoped": "scoped",
     "BindingRead": "binding",
 }
-READ = {"Octets", "Notice", "Request", "Sealing", "Scoped", "AnsweredRead"}  # structs that a call only reads
+# structs that a call only reads
+READ = {"Octets", "Notice", "Request", "Sealing", "Scoped", "AnsweredRead", "ListenerSettings"}
 
 
 def snake(name):
@@ -124,6 +126,7 @@ PYTHON_PREFIXES = {
     gate.Ended: "ENDED_",
     forward.ForwardEvent: "FORWARD_",
     forward.InformMessage: "INFORM_",
+    receiver.NotifyEvent: "LISTENER_",
 }
 
 
@@ -244,7 +247,12 @@ EXPORT_TYPES = {
 ARCHIVE_STRUCT = re.compile(
     r"^#\[repr\(C\)\]\n(?:#[^\n]*\n)*pub struct (\w+)(?:<'a>)? \{\n(.*?)^\}", re.MULTILINE | re.DOTALL
 )
-FIELD_TYPES = {"&'a [u8]": "proved_octets", "&'a [u32]": "proved_arcs", "bool": "bool"}
+FIELD_TYPES = {
+    "&'a [u8]": "proved_octets",
+    "&'a [u32]": "proved_arcs",
+    "&'a [NotifyingSource<'a>]": "proved_notifying_sources",
+    "bool": "bool",
+}
 
 
 def c_name(struct):

@@ -264,6 +264,54 @@ static int measure_forward(void) {
     return 0;
 }
 
+/* ---- a receiver of notifications, which reports a Trap, and an Inform that it acknowledges */
+
+static snmpsec_listener *listener;
+static snmpsec_listener_event notified;
+static const uint8_t listener_engine[] = {0x80, 0, 0x1f, 0x88, 4, 'z'};
+static void listener_new(void) {
+    static const char saved[] = SNMPSEC_NO_CLOCKS;
+    snmpsec_listener_settings of = {.boots = 5, .started = NOW - 100, .most = 9, .engine = {listener_engine, sizeof listener_engine},
+                                    .clocks = {(const uint8_t *)saved, sizeof saved - 1}};
+    answer = snmpsec_listener_new((const uint8_t *)users, sizeof users - 1, &of, NULL, 0, &listener);
+}
+static void listener_take(void) {
+    int why;
+    id++;
+    answer = snmpsec_listener_take(listener, NOW, NULL, 0, message, len, id, &notified, &why);
+}
+static void listener_free(void) { snmpsec_listener_free(listener); answer = 0; }
+
+/* An Inform to the receiver. */
+static int written_inform(void) {
+    static const char clocks[] = "snmp-clocks 2\n80001f88047a 5 100 1000\n";
+    snmpsec_manager *sender;
+    snmpsec_request r = {.pdu = SNMPSEC_INFORM_REQUEST, .message_id = 1, .request_id = 1, .level = SNMPSEC_AUTH_PRIV,
+                         .engine = {listener_engine, sizeof listener_engine}, .user = {(const uint8_t *)"bob", 3},
+                         .context_engine = {listener_engine, sizeof listener_engine}, .list = {list, list_len}, .salt = 1};
+    if (snmpsec_manager_new((const uint8_t *)users, sizeof users - 1, (const uint8_t *)clocks, sizeof clocks - 1, NOW, &sender)) return 1;
+    if (snmpsec_manager_request(sender, NOW, &r) || snmpsec_manager_message(sender, message, sizeof message, &len)) return 1;
+    snmpsec_manager_free(sender);
+    return 0;
+}
+
+static int measure_listener(void) {
+    snmpsec_agent *sender;
+    snmpsec_notice notice = {.message_id = 1, .request_id = 1, .level = SNMPSEC_AUTH_PRIV, .user = {(const uint8_t *)"bob", 3}, .list = {list, list_len}};
+    if (snmpsec_agent_new((const uint8_t *)users, sizeof users - 1, engine, sizeof engine, 5, NOW - 100, &sender)) return 1;
+    measure("listener_new", listener_new, SNMPSEC_DEEP_STACK);
+    if (answer || snmpsec_agent_notify(sender, NOW, &notice) || snmpsec_agent_message(sender, message, sizeof message, &len)) return 1;
+    snmpsec_agent_free(sender);
+    measure("listener_take, a Trap", listener_take, SNMPSEC_DEEP_STACK);
+    if (answer || notified != SNMPSEC_LISTENER_TRAP || written_inform()) return 1;
+    for (int i = 0; i < 2; i++) {
+        measure("listener_take, an Inform", listener_take, SNMPSEC_DEEP_STACK);
+        if (answer || notified != (i ? SNMPSEC_LISTENER_COPY : SNMPSEC_LISTENER_INFORM)) return 1;
+    }
+    measure("listener_free", listener_free, SNMPSEC_DEEP_STACK);
+    return 0;
+}
+
 int main(int argc, char **argv) {
     FILE *file = argc == 2 ? fopen(argv[1], "rb") : NULL;
     stack = malloc(SIZE);
@@ -310,6 +358,7 @@ int main(int argc, char **argv) {
     }
     if (measure_gate()) { printf("FAILED the gateway's exchange stops at answer %d, event %d\n", answer, event); return 1; }
     if (measure_forward()) { printf("FAILED the forwarder stops at answer %d, event %d\n", answer, told); return 1; }
+    if (measure_listener()) { printf("FAILED the receiver stops at answer %d, event %d\n", answer, notified); return 1; }
     measure("password_key", password_key, SNMPSEC_STACK);
     measure("localise", localised, SNMPSEC_STACK);
     measure("mac", macced, SNMPSEC_STACK);

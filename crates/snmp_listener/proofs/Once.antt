@@ -19,7 +19,6 @@ use Rattle.usm_core.specs.Authentic.{Authentic}
 use Rattle.usm_core.specs.Table.{gives, holds}
 use Rattle.usm_core.specs.Verified.{Side, Verified, Verifies, manager}
 use Rattle.usm_core.proofs.Authentics.{exactly}
-use Rattle.snmp_incoming.specs.Answers.{given_of}
 use Rattle.snmp_incoming.specs.Outcome.{Given, IsFresh, Outcome, ReadsText, Taker, Weighs, as_agent, as_manager, pair_in, side_at}
 use Rattle.snmp_manager.specs.Learning.{LearnsFrom}
 use Rattle.snmp_agent.specs.Agent.{AgentState, taker_of}
@@ -128,10 +127,10 @@ some_not : {A : Type 0} (x : A) → Some x ≡ None → ⊥
 some_not x is = cc is
 
 tells : (kind : Kind) (old : ListenerState) (now : ℕ) (from w salt : List ℕ) (what : ListenerTaken) (new : ListenerState) → TakesAs kind old now from w salt what new → reason_of what ≡ None → Tells kind old now w what new
-tells trap old now from w salt (Trap t) new took is = record { given = given_of t; answers = took.fit.answers; told = refl }
+tells trap old now from w salt (Trap t) new took is = record { given = t; answers = took.fit.answers; told = refl }
 tells inform old now from w salt (Trap t) new took is = absurd took
 tells trap old now from w salt (Inform t text) new took is = absurd took
-tells inform old now from w salt (Inform t text) new took is = record { given = given_of t; answers = took.fit.answers; told = refl }
+tells inform old now from w salt (Inform t text) new took is = record { given = t; answers = took.fit.answers; told = refl }
 tells kind old now from w salt (Copy text) new took is = absurd (some_not _ is)
 tells kind old now from w salt (Dropped why answer) new took is = absurd (some_not why is)
 

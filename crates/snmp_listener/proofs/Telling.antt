@@ -4,8 +4,6 @@ use Rattle.std.specs.Global.{Vec}
 use Rattle.std.proofs.Common.{arith, inl, inr, refl, subst, sym}
 use Rattle.sha2.specs.Sha256.{sha256}
 use Rattle.snmp_message.specs.declared.refusal.Refusal.{Refusal}
-use Rattle.snmp_incoming.specs.Answers.{given_of}
-use Rattle.snmp_incoming.specs.declared.taken.Taken.{Taken}
 use Rattle.snmp_incoming.specs.Outcome.{Given, Outcome, Taker, as_manager}
 use Rattle.snmp_agent.specs.Agent.{taker_of}
 use Rattle.usm_users.specs.User.{User}
@@ -14,7 +12,8 @@ use Rattle.snmp_listener.specs.Acknowledging.{Acknowledges}
 use Rattle.snmp_listener.specs.Listening.{Answers, DropsAs, IsAnswered, IsFit, Kind, ListenerState, ListenerTakes, RefusesAs, TakesAs, inform, tag_of, trap, uncounted}
 use Rattle.snmp_listener.specs.Runs.{Event, IsRun, IsToBeTold, IsTold, IsUnanswerable, acknowledgement_of, latest, told_again}
 use Rattle.snmp_listener.specs.Told.{HasDigest, lasting}
-use Rattle.snmp_listener.specs.Wanted.{IsUnwanted, IsWanted}
+use Rattle.snmp_ber.specs.declared.level.Level.{Level}
+use Rattle.snmp_listener.specs.Wanted.{IsHighEnough, IsLow, IsUnwanted, IsWanted}
 use Rattle.snmp_listener.specs.declared.dropped.Dropped.{Dropped as Why}
 use Rattle.snmp_listener.specs.declared.dropped.Dropped.TheVariants as drops
 use Rattle.snmp_listener.specs.declared.listener.ListenerTaken.{ListenerTaken}
@@ -41,9 +40,9 @@ copy_acknowledged : (kind : Kind) (old new : ListenerState) (now : ℕ) (from w 
 copy_acknowledged trap old new now from w salt g what text fit answered has = absurd (none_not text (sym answered))
 copy_acknowledged inform old new now from w salt g what text fit answered has = (g, fit, answered, inr has)
 
-inform_acknowledged : (kind : Kind) (old new : ListenerState) (now : ℕ) (from w salt : List ℕ) (t : Taken) (other text : Vec ℕ) → TakesAs kind old now from w salt (Inform t other) new → other ≡ text → Acknowledged old new now from w salt (Inform t other) text
+inform_acknowledged : (kind : Kind) (old new : ListenerState) (now : ℕ) (from w salt : List ℕ) (t : Given) (other text : Vec ℕ) → TakesAs kind old now from w salt (Inform t other) new → other ≡ text → Acknowledged old new now from w salt (Inform t other) text
 inform_acknowledged trap old new now from w salt t other text took same = absurd took
-inform_acknowledged inform old new now from w salt t other text took same = (given_of t, took.fit, subst (λ (x : Vec ℕ). Acknowledges old.agent now (given_of t) salt (Ok x.items)) same took.answered, inl refl)
+inform_acknowledged inform old new now from w salt t other text took same = (t, took.fit, subst (λ (x : Vec ℕ). Acknowledges old.agent now t salt (Ok x.items)) same took.answered, inl refl)
 
 acknowledged : (kind : Kind) (old new : ListenerState) (now : ℕ) (from w salt : List ℕ) (what : ListenerTaken) (text : Vec ℕ) → TakesAs kind old now from w salt what new → acknowledgement_of what ≡ Some text → Acknowledged old new now from w salt what text
 acknowledged kind old new now from w salt (Trap t) text took is = absurd (none_not text is)
@@ -95,24 +94,28 @@ module _ (since : ℕ) (first old last : ListenerState) (events : List Event) (n
 abbrev pub HasOneAnswer : Type 0
 HasOneAnswer = (taker : Taker) (users : List User) (now : ℕ) (w : List ℕ) (a b : Result Given Refusal) → Outcome taker users now w a → Outcome taker users now w b → a ≡ b
 
-not_wanted : (rules : ListenerRules) (tables : Tables) (tag : ℕ) (from : List ℕ) (g : Given) (why : Why) → IsWanted rules tables tag from g → IsUnwanted rules tables tag from g why → ⊥
-not_wanted rules tables tag from g (drops.Refused r) wanted is = is
-not_wanted rules tables tag from g drops.OtherPdu wanted is = is wanted.tag_is
-not_wanted rules tables tag from g drops.LowLevel wanted is = omega (arith, wanted.level, is)
-not_wanted rules tables tag from g drops.OtherAddress wanted is = is.1 (wanted.address is.0)
-not_wanted rules tables tag from g drops.OutsideView wanted is = is.1 (wanted.view is.0)
-not_wanted rules tables tag from g drops.Copy wanted is = is
-not_wanted rules tables tag from g drops.NoRoom wanted is = is
+low_not_high : (least : Option Level) (users : List User) (name : List ℕ) (level : Level) → IsHighEnough least users name level → IsLow least users name level → ⊥
+low_not_high (Some least) users name level high low = absurd (omega (arith, high, low))
+low_not_high None users name level high low = absurd (omega (arith, high low.0 low.1, low.2))
+
+not_wanted : (rules : ListenerRules) (users : List User) (tables : Tables) (tag : ℕ) (from : List ℕ) (g : Given) (why : Why) → IsWanted rules users tables tag from g → IsUnwanted rules users tables tag from g why → ⊥
+not_wanted rules users tables tag from g (drops.Refused r) wanted is = is
+not_wanted rules users tables tag from g drops.OtherPdu wanted is = is wanted.tag_is
+not_wanted rules users tables tag from g drops.LowLevel wanted is = low_not_high rules.least_level users g.user g.level wanted.level is
+not_wanted rules users tables tag from g drops.OtherAddress wanted is = is.1 (wanted.address is.0)
+not_wanted rules users tables tag from g drops.OutsideView wanted is = is.1 (wanted.view is.0)
+not_wanted rules users tables tag from g drops.Copy wanted is = is
+not_wanted rules users tables tag from g drops.NoRoom wanted is = is
 
 module _ (one : HasOneAnswer) (old new : ListenerState) (now : ℕ) (from w salt : List ℕ) (g : Given) where
   one_answer : (kind : Kind) (a b : Result Given Refusal) → Answers kind old now w a new → Answers kind old now w b new → a ≡ b
   one_answer trap a b first second = one (as_manager new.manager.clocks) old.manager.users now w a b first.1.2 second.1.2
   one_answer inform a b first second = one (taker_of old.agent) old.agent.users now w a b first.1.0 second.1.0
 
-  unfit_not : (kind : Kind) (why : Why) (given : Given) → IsNew old new now from w kind g → Answers kind old now w (Ok given) new → IsUnwanted old.rules old.agent.tables (tag_of kind) from given why → ⊥
+  unfit_not : (kind : Kind) (why : Why) (given : Given) → IsNew old new now from w kind g → Answers kind old now w (Ok given) new → IsUnwanted old.rules new.manager.users old.agent.tables (tag_of kind) from given why → ⊥
   unfit_not kind why given is answers unwanted =
       let same : g ≡ given = cc (one_answer kind (Ok g) (Ok given) is.fit.answers answers) in
-      not_wanted old.rules old.agent.tables (tag_of kind) from given why (subst (IsWanted old.rules old.agent.tables (tag_of kind) from) same is.fit.wanted) unwanted
+      not_wanted old.rules new.manager.users old.agent.tables (tag_of kind) from given why (subst (IsWanted old.rules new.manager.users old.agent.tables (tag_of kind) from) same is.fit.wanted) unwanted
 
   refused_not : (kind : Kind) (r : Refusal) → IsNew old new now from w kind g → Answers kind old now w (Err r) new → ⊥
   refused_not kind r is answers = cc (one_answer kind (Ok g) (Err r) is.fit.answers answers)
@@ -134,10 +137,10 @@ module _ (one : HasOneAnswer) (old new : ListenerState) (now : ℕ) (from w salt
   new_dropped kind drops.Copy answer is took = absurd took.1.unwanted
 
   new_told : (kind : Kind) (what : ListenerTaken) → IsNew old new now from w kind g → TakesAs kind old now from w salt what new → IsTold what kind g ⊎ IsUnanswerable old now salt kind g what
-  new_told trap (Trap t) is took = inl (cc (one_answer trap (Ok (given_of t)) (Ok g) took.fit.answers is.fit.answers))
+  new_told trap (Trap t) is took = inl (cc (one_answer trap (Ok t) (Ok g) took.fit.answers is.fit.answers))
   new_told inform (Trap t) is took = absurd took
   new_told trap (Inform t text) is took = absurd took
-  new_told inform (Inform t text) is took = inl (cc (one_answer inform (Ok (given_of t)) (Ok g) took.fit.answers is.fit.answers))
+  new_told inform (Inform t text) is took = inl (cc (one_answer inform (Ok t) (Ok g) took.fit.answers is.fit.answers))
   new_told kind (Copy text) is took = absurd (is.no_copy took.1.notes.0)
   new_told kind (Dropped why answer) is took = inr (new_dropped kind why answer is took)
 

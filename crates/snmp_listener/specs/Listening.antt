@@ -11,7 +11,6 @@ use Rattle.snmp_message.specs.declared.refusal.Refusal.{Refusal}
 use Rattle.snmp_msg.specs.PduTypes.{pdu_tag}
 use Rattle.snmp_msg.specs.declared.pdu_type.PduType.TheVariants.{InformRequest, SNMPv2Trap}
 use Rattle.engine_clock.specs.Marks.{Marks}
-use Rattle.snmp_incoming.specs.Answers.{given_of}
 use Rattle.snmp_incoming.specs.Outcome.{Given}
 use Rattle.snmp_manager.specs.Takes.{Takes}
 use Rattle.snmp_manager.specs.Views.{Held}
@@ -93,7 +92,7 @@ Reports inform new now w refusal report = AgentReports new.agent now w (Some ref
 pub record IsFit (kind : Kind) (old : ListenerState) (now : ℕ) (from w : List ℕ) (g : Given)
     (new : ListenerState) : Type 0 where
   pub answers : Answers kind old now w (Ok g) new
-  pub wanted : IsWanted old.rules old.agent.tables (tag_of kind) from g
+  pub wanted : IsWanted old.rules new.manager.users old.agent.tables (tag_of kind) from g
 
 -- ---- what is remembered
 
@@ -130,7 +129,7 @@ pub record IsUnfit (kind : Kind) (old : ListenerState) (now : ℕ) (from w : Lis
     : Type 0 where
   pub given : Given
   pub answers : Answers kind old now w (Ok given) new
-  pub unwanted : IsUnwanted old.rules old.agent.tables (tag_of kind) from given why
+  pub unwanted : IsUnwanted old.rules new.manager.users old.agent.tables (tag_of kind) from given why
   pub notes : NotesNothing old new
 
 -- it is refused, with this report
@@ -174,19 +173,19 @@ DropsAs kind old now from w salt drops.NoRoom answer new = (answer ≡ None) × 
 DropsAs kind old now from w salt why answer new = (answer ≡ None) × IsUnfit kind old now from w why new
 
 abbrev pub TakesAs : Kind → ListenerState → ℕ → List ℕ → List ℕ → List ℕ → ListenerTaken → ListenerState → Type 0
-TakesAs trap old now from w salt (Trap t) new = IsNotified trap old now from w salt (given_of t) None notes.New new
-TakesAs inform old now from w salt (Trap t) new = ⊥
-TakesAs trap old now from w salt (Inform t text) new = ⊥
-TakesAs inform old now from w salt (Inform t text) new =
-    IsNotified inform old now from w salt (given_of t) (Some text) notes.New new
+TakesAs trap old now from w salt (Trap g) new = IsNotified trap old now from w salt g None notes.New new
+TakesAs inform old now from w salt (Trap g) new = ⊥
+TakesAs trap old now from w salt (Inform g text) new = ⊥
+TakesAs inform old now from w salt (Inform g text) new =
+    IsNotified inform old now from w salt g (Some text) notes.New new
 TakesAs kind old now from w salt (Copy text) new = (g : Given)
     × IsNotified kind old now from w salt g text notes.Copy new
 TakesAs kind old now from w salt (IsDropped why answer) new = DropsAs kind old now from w salt why answer new
 
 -- why it isn't reported; None: it is
 abbrev pub reason_of : ListenerTaken → Option Dropped
-reason_of (Trap t) = None
-reason_of (Inform t text) = None
+reason_of (Trap g) = None
+reason_of (Inform g text) = None
 reason_of (Copy text) = Some drops.Copy
 reason_of (IsDropped why answer) = Some why
 

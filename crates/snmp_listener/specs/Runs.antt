@@ -10,7 +10,6 @@ use Rattle.std.specs.Global.{Vec}
 use Rattle.sha2.specs.Sha256.{sha256}
 use Rattle.engine_clock.specs.Marks.{Marks}
 use Rattle.snmp_message.specs.declared.refusal.Refusal.{Refusal}
-use Rattle.snmp_incoming.specs.Answers.{given_of}
 use Rattle.snmp_incoming.specs.Outcome.{Given}
 use Rattle.snmp_listener.specs.Acknowledging.{Acknowledges}
 use Rattle.snmp_listener.specs.Counting.{place_of}
@@ -48,8 +47,8 @@ IsRun since first (finds_no_memory ∷ before) last = IsRun since first before l
 
 -- what a call tells, as it is remembered
 abbrev pub told_by : ℕ → List ℕ → ListenerTaken → Marks → List ToldNotification
-told_by now w (Trap t) clocks = told_now now (sha256 w) (sender_of (given_of t) clocks) ∷ []
-told_by now w (Inform t text) clocks = told_now now (sha256 w) None ∷ []
+told_by now w (Trap g) clocks = told_now now (sha256 w) (sender_of g clocks) ∷ []
+told_by now w (Inform g text) clocks = told_now now (sha256 w) None ∷ []
 told_by now w (Copy text) clocks = []
 told_by now w (IsDropped why answer) clocks = []
 
@@ -70,8 +69,8 @@ told_again events now l = lasting now l.manager.clocks (told_in events)
 
 -- the call tells this notification
 abbrev pub IsTold : ListenerTaken → Kind → Given → Type 0
-IsTold (Trap t) trap g = given_of t ≡ g
-IsTold (Inform t text) inform g = given_of t ≡ g
+IsTold (Trap told) trap g = told ≡ g
+IsTold (Inform told text) inform g = told ≡ g
 IsTold _ kind g = ⊥
 
 -- ---- what is to be told
@@ -93,8 +92,8 @@ IsUnanswerable old now salt kind g what = (refusal : Refusal) × (kind ≡ infor
 
 -- the acknowledgement that goes out; the Response tooBig is none
 abbrev pub acknowledgement_of : ListenerTaken → Option (Vec ℕ)
-acknowledgement_of (Trap t) = None
-acknowledgement_of (Inform t text) = Some text
+acknowledgement_of (Trap g) = None
+acknowledgement_of (Inform g text) = Some text
 acknowledgement_of (Copy text) = text
 acknowledgement_of (IsDropped why answer) = None
 

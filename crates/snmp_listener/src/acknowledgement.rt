@@ -8,7 +8,7 @@ ghost use Rattle.usm_core.specs.Answers.{seal_answer};
 ghost use Rattle.snmp_listener.specs.Acknowledging.{Acknowledges, TellsTooBig, response_to};
 
 use snmp_agent::{Agent, Response};
-use snmp_incoming::Taken;
+use snmp_incoming::{Kept, Taken};
 use snmp_msg::{Binding, Pdu, RefusedAt, VariableBinding};
 use std::alloc::{AllocError, Global};
 
@@ -42,7 +42,7 @@ fn response_to(taken: &Taken<'_>, status: i32, salt: [u8; 8]) -> Response
 
 /// Returns the Response to an Inform, with its own bindings and without an error. The errors are those of
 /// `Agent::write_response`, within the sender's msgMaxSize.
-pub(crate) fn acknowledgement(
+fn acknowledgement(
     alloc: Global,
     agent: &mut Agent,
     now: u64,
@@ -60,7 +60,7 @@ pub(crate) fn acknowledgement(
 
 /// Returns the Response that tells that the acknowledgement of an Inform is too big. None: it is too big too, or it
 /// can't be sealed. The error is out of memory.
-pub(crate) fn too_big(
+fn too_big(
     agent: &mut Agent,
     now: u64,
     taken: &Taken<'_>,
@@ -77,4 +77,33 @@ pub(crate) fn too_big(
         Err(fault) if fault.is_memory() => Err(AllocError),
         Err(_) => Ok(None),
     }
+}
+
+/// Returns the acknowledgement of an Inform that was kept.
+pub(crate) fn acknowledgement_of_kept(
+    alloc: Global,
+    agent: &mut Agent,
+    now: u64,
+    kept: &Kept,
+    salt: [u8; 8],
+) -> Result<Vec<u8>, RefusedAt>
+    ensures answer { IfSome (seal_answer result) (Acknowledges agent.old now kept.now salt) }
+    ensures same { agent.new ≡ agent.old }
+{
+    let taken = kept.taken();
+    acknowledgement(alloc, agent, now, &taken, salt)
+}
+
+/// Returns the Response tooBig to an Inform that was kept.
+pub(crate) fn too_big_of_kept(
+    agent: &mut Agent,
+    now: u64,
+    kept: &Kept,
+    salt: [u8; 8],
+) -> Result<Option<Vec<u8>>, AllocError>
+    ensures answer { IfOk result (TellsTooBig agent.old now kept.now salt) }
+    ensures same { agent.new ≡ agent.old }
+{
+    let taken = kept.taken();
+    too_big(agent, now, &taken, salt)
 }

@@ -28,8 +28,9 @@ pub enum Dropped {
 pub(crate) const REASONS: usize = 25;
 
 impl Dropped {
-    /// The place of its counter: a refusal's number, or one above them.
-    pub(crate) fn place(self) -> usize
+    /// Returns the place of its counter: a refusal's number, 1 to 18, or 19 OtherPdu, 20 LowLevel, 21 OtherAddress, 22
+    /// OutsideView, 23 Copy, 24 NoRoom.
+    pub fn place(self) -> usize
         ensures place { result ≡ place_of self }
         ensures within { result < places }
     {

@@ -28,7 +28,7 @@
 //!     let mut sources = Vec::new(alloc);
 //!     sources.push(Vec::from_slice(alloc, b"192.0.2.1")?)?;
 //!     Ok(ListenerRules {
-//!         least_level: Level::NoAuthNoPriv,
+//!         least_level: Some(Level::NoAuthNoPriv),
 //!         sources,
 //!         viewed: Vec::new(alloc),
 //!         most: 4_096,

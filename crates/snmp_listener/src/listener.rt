@@ -1,33 +1,32 @@
 //! The receiver of notifications.
 
-ghost use Rattle.std.specs.Prelude.{◌≡◌, ℕ, List, None, Some, Ok, slice_index, IfOk, OnErr};
-ghost use Rattle.snmp_incoming.specs.Answers.{given_of};
+ghost use Rattle.std.specs.Prelude.{◌≡◌, ◌<◌, ◌≤◌, ℕ, List, None, Some, Ok, slice_index, IfOk, MatchOption, OnErr};
 ghost use Rattle.snmp_agent.specs.Agent.{AgentTakes};
 ghost use Rattle.snmp_listener.specs.Wanted.{IsForManager};
 ghost use Rattle.snmp_listener.specs.Listening.{HasRoom, IsSame, ListenerTakes, TakesAs, inform};
 ghost use Rattle.snmp_listener.specs.Listening.{IsUnacknowledged, Kind, new_listener, reason_of, state_of, trap};
-ghost use Rattle.snmp_listener.specs.Counting.{place_of};
+ghost use Rattle.snmp_listener.specs.Counting.{place_of, places};
 
-use crate::acknowledgement::{acknowledgement, too_big};
+use crate::acknowledgement::{acknowledgement_of_kept, too_big_of_kept};
 use crate::dropped::{Dropped, REASONS, counts_after};
 use crate::rules::ListenerRules;
-use crate::told::{ToldNote, ToldNotifications, digest_of, sender_of};
+use crate::told::{ToldNote, ToldNotifications, digest_of, sender_of_kept};
 use crate::wanted::is_for_manager;
 use engine_clock::EngineId;
 use snmp_agent::Agent;
-use snmp_incoming::Taken;
+use snmp_incoming::Kept;
 use snmp_manager::Manager;
 use snmp_msg::{PduType, RefusedAt};
 use std::alloc::{AllocError, Global};
 
 /// What becomes of a datagram.
 #[derive(Drop)]
-pub enum ListenerTaken<'a> {
+pub enum ListenerTaken {
     /// It is an SNMPv2-Trap, and told.
-    Trap(Taken<'a>),
+    Trap(Kept),
     /// It is an InformRequest, and told. The acknowledgement is to be sent to its sender.
     Inform {
-        taken: Taken<'a>,
+        kept: Kept,
         acknowledgement: Vec<u8>,
     },
     /// It was told before. The acknowledgement of an InformRequest is to be sent again.
@@ -56,7 +55,7 @@ pub struct Listener {
 }
 
 /// Returns that a datagram isn't reported, and that nothing is sent.
-fn silent_drop<'a>(why: Dropped) -> ListenerTaken<'a>
+fn silent_drop(why: Dropped) -> ListenerTaken
     ensures { result ≡ ListenerTaken.Dropped why None }
 {
     ListenerTaken::Dropped { why, answer: None }
@@ -64,27 +63,27 @@ fn silent_drop<'a>(why: Dropped) -> ListenerTaken<'a>
 
 /// Returns that an Inform isn't reported, since its acknowledgement is refused for this fault. The error is out of
 /// memory.
-fn refuse_inform<'a>(
+fn refuse_inform(
     agent: &mut Agent,
     now: u64,
-    taken: &Taken<'_>,
+    kept: &Kept,
     fault: RefusedAt,
     salt: [u8; 8],
-) -> Result<ListenerTaken<'a>, AllocError>
-    ensures ok { IfOk result (IsUnacknowledged agent.old now (given_of taken.now) salt fault.refusal) }
+) -> Result<ListenerTaken, AllocError>
+    ensures ok { IfOk result (IsUnacknowledged agent.old now kept.now salt fault.refusal) }
     ensures same { agent.new ≡ agent.old }
 {
     if fault.is_memory() {
         return Err(AllocError);
     }
-    let answer = too_big(agent, now, taken, salt)?;
+    let answer = too_big_of_kept(agent, now, kept, salt)?;
     Ok(ListenerTaken::Dropped {
         why: Dropped::Refused(fault.refusal),
         answer,
     })
 }
 
-impl ListenerTaken<'_> {
+impl ListenerTaken {
     /// Returns the reason for which the datagram isn't reported. None: it is.
     pub fn reason(&self) -> Option<Dropped>
         ensures { result ≡ reason_of self.now }
@@ -142,6 +141,17 @@ impl Listener {
         self.counts[why.place()]
     }
 
+    /// Returns the counter at a place, as `Dropped::place` has them. None: there is no such place.
+    pub fn count_at(&self, place: usize) -> Option<u64>
+        ensures { MatchOption result (places ≤ place)
+            (λ count. (place < places) × (count ≡ slice_index self.now.counts place)) }
+    {
+        if place >= REASONS {
+            return None;
+        }
+        Some(self.counts[place])
+    }
+
     /// Takes a datagram at the moment `now`, which isn't before those of earlier calls, from an address. A datagram is
     /// the manager's if it is under another engine ID than the listener's own and asks for no report, and else the
     /// agent's (RFC 3412, section 6.4; RFC 3414, section 3.1). It is reported if and only if
@@ -156,13 +166,13 @@ impl Listener {
     ///
     /// What is dropped, copies too, is counted by its reason. The salt is that of the acknowledgement, and is to be
     /// another one for each call. The error is out of memory, and then all is as before.
-    pub fn take<'a>(
+    pub fn take(
         &mut self,
         now: u64,
         from: &[u8],
-        datagram: &'a [u8],
+        datagram: &[u8],
         salt: [u8; 8],
-    ) -> Result<ListenerTaken<'a>, AllocError>
+    ) -> Result<ListenerTaken, AllocError>
         ensures takes { IfOk result (λ what. ListenerTakes (state_of self.old) now from.now datagram.now salt what
             (state_of self.new)) }
         ensures err { OnErr result (state_of self.new ≡ state_of self.old) }
@@ -174,13 +184,13 @@ impl Listener {
     }
 
     /// The same. Nothing is counted.
-    fn take_as<'a>(
+    fn take_as(
         &mut self,
         now: u64,
         from: &[u8],
-        datagram: &'a [u8],
+        datagram: &[u8],
         salt: [u8; 8],
-    ) -> Result<ListenerTaken<'a>, AllocError>
+    ) -> Result<ListenerTaken, AllocError>
         requires { HasRoom self.old }
         ensures takes { IfOk result (λ what. (kind : Kind)
             × TakesAs kind (state_of self.old) now from.now datagram.now salt what
@@ -195,12 +205,12 @@ impl Listener {
     }
 
     /// The same of a datagram that is the manager's.
-    fn take_trap<'a>(
+    fn take_trap(
         &mut self,
         now: u64,
         from: &[u8],
-        datagram: &'a [u8],
-    ) -> Result<ListenerTaken<'a>, AllocError>
+        datagram: &[u8],
+    ) -> Result<ListenerTaken, AllocError>
         requires is { IsForManager self.old.engine datagram.now }
         requires room { HasRoom self.old }
         ensures takes { IfOk result (λ what. (salt : List ℕ)
@@ -209,8 +219,8 @@ impl Listener {
         ensures same { IsSame (state_of self.old) (state_of self.new) }
         ensures err { OnErr result (state_of self.new ≡ state_of self.old) }
     {
-        let taken = match self.manager.take(now, datagram) {
-            Ok(taken) => taken,
+        let kept = match self.manager.take_kept(now, datagram) {
+            Ok(kept) => kept,
             Err(fault) => {
                 if fault.is_memory() {
                     return Err(AllocError);
@@ -219,16 +229,17 @@ impl Listener {
             }
         };
         let tag = PduType::SNMPv2Trap.tag();
+        let tables = self.agent.tables();
         if let Some(why) = self
             .rules
-            .reason_against(self.agent.tables(), tag, from, &taken)
+            .reason_against_kept(&self.manager, tables, tag, from, &kept)
         {
             return Ok(silent_drop(why));
         }
-        let sender = sender_of(&self.manager, &taken);
+        let sender = sender_of_kept(&self.manager, &kept);
         let (digest, most) = (digest_of(datagram), self.rules.most);
         match self.told.note(now, &self.manager, digest, sender, most) {
-            ToldNote::New => Ok(ListenerTaken::Trap(taken)),
+            ToldNote::New => Ok(ListenerTaken::Trap(kept)),
             ToldNote::Copy => Ok(ListenerTaken::Copy {
                 acknowledgement: None,
             }),
@@ -237,13 +248,13 @@ impl Listener {
     }
 
     /// The same of a datagram that is the agent's.
-    fn take_inform<'a>(
+    fn take_inform(
         &mut self,
         now: u64,
         from: &[u8],
-        datagram: &'a [u8],
+        datagram: &[u8],
         salt: [u8; 8],
-    ) -> Result<ListenerTaken<'a>, AllocError>
+    ) -> Result<ListenerTaken, AllocError>
         requires is { ¬ IsForManager self.old.engine datagram.now }
         requires room { HasRoom self.old }
         ensures takes { IfOk result (λ what.
@@ -264,20 +275,21 @@ impl Listener {
                 });
             }
         };
-        self.tell_inform(now, from, datagram, salt, taken)
+        let kept = Kept::of(self.alloc, taken)?;
+        self.tell_inform(now, from, datagram, salt, kept)
     }
 
     /// The same of a datagram that the agent accepted.
-    fn tell_inform<'a>(
+    fn tell_inform(
         &mut self,
         now: u64,
         from: &[u8],
-        datagram: &'a [u8],
+        datagram: &[u8],
         salt: [u8; 8],
-        taken: Taken<'a>,
-    ) -> Result<ListenerTaken<'a>, AllocError>
+        kept: Kept,
+    ) -> Result<ListenerTaken, AllocError>
         requires is { ¬ IsForManager self.old.engine datagram.now }
-        requires accepted { AgentTakes self.old.agent now datagram.now (Some (Ok (given_of taken))) self.old.agent }
+        requires accepted { AgentTakes self.old.agent now datagram.now (Some (Ok kept)) self.old.agent }
         requires room { HasRoom self.old }
         ensures takes { IfOk result (λ what.
             TakesAs inform (state_of self.old) now from.now datagram.now salt what
@@ -286,20 +298,21 @@ impl Listener {
         ensures err { OnErr result (state_of self.new ≡ state_of self.old) }
     {
         let tag = PduType::InformRequest.tag();
+        let tables = self.agent.tables();
         if let Some(why) = self
             .rules
-            .reason_against(self.agent.tables(), tag, from, &taken)
+            .reason_against_kept(&self.manager, tables, tag, from, &kept)
         {
             return Ok(silent_drop(why));
         }
-        let text = match acknowledgement(self.alloc, &mut self.agent, now, &taken, salt) {
+        let text = match acknowledgement_of_kept(self.alloc, &mut self.agent, now, &kept, salt) {
             Ok(text) => text,
-            Err(fault) => return refuse_inform(&mut self.agent, now, &taken, fault, salt),
+            Err(fault) => return refuse_inform(&mut self.agent, now, &kept, fault, salt),
         };
         let (digest, most) = (digest_of(datagram), self.rules.most);
         match self.told.note(now, &self.manager, digest, None, most) {
             ToldNote::New => Ok(ListenerTaken::Inform {
-                taken,
+                kept,
                 acknowledgement: text,
             }),
             ToldNote::Copy => Ok(ListenerTaken::Copy {

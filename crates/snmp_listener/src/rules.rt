@@ -8,8 +8,9 @@ use snmp_ber::Level;
 /// Which notifications a listener takes, and from whom.
 #[derive(Drop)]
 pub struct ListenerRules {
-    /// The least level. A notification below it isn't reported.
-    pub least_level: Level,
+    /// The least level. A notification below it isn't reported. None: for each user the highest level for which the
+    /// user has the keys.
+    pub least_level: Option<Level>,
     /// The addresses from which notifications at noAuthNoPriv are taken: any octets that the caller gives each address.
     pub sources: Vec<Vec<u8>>,
     /// The names of the users whose notifications have to be in their notify view.

@@ -9,7 +9,7 @@ ghost use Rattle.snmp_incoming.specs.Answers.{given_of};
 use engine_clock::{EngineId, Pair};
 use sha2::{Digest as _, Sha256};
 use snmp_ber::Level;
-use snmp_incoming::Taken;
+use snmp_incoming::{Kept, Taken};
 use snmp_manager::Manager;
 use std::alloc::{AllocError, Global};
 
@@ -67,7 +67,7 @@ fn may_come(then: Pair, held: Pair) -> bool
 
 /// Returns the sender of a notification that a manager accepted, with the pair that is held of it, if the notification
 /// has authentication.
-pub(crate) fn sender_of(manager: &Manager, taken: &Taken<'_>) -> Option<ToldSender>
+fn sender_of(manager: &Manager, taken: &Taken<'_>) -> Option<ToldSender>
     ensures { result ≡ sender_of (given_of taken.now) manager.now.clocks }
 {
     if taken.level == Level::NoAuthNoPriv {
@@ -78,6 +78,14 @@ pub(crate) fn sender_of(manager: &Manager, taken: &Taken<'_>) -> Option<ToldSend
         engine: taken.engine.copy(),
         pair,
     })
+}
+
+/// Returns the same of a notification that was kept.
+pub(crate) fn sender_of_kept(manager: &Manager, kept: &Kept) -> Option<ToldSender>
+    ensures { result ≡ sender_of kept.now manager.now.clocks }
+{
+    let taken = kept.taken();
+    sender_of(manager, &taken)
 }
 
 impl ToldNotification {

@@ -1,17 +1,21 @@
 //! Which of the messages that were accepted are to be told.
 
-ghost use Rattle.std.specs.Prelude.{◌≡◌, ◌↔◌, All, IsTrue, MatchBool, MatchOption};
+ghost use Rattle.std.specs.Prelude.{◌≡◌, ◌<◌, ◌≤◌, ◌↔◌, true, All, IsTrue, MatchBool, MatchOption};
 ghost use Rattle.snmp_msg.specs.Variables.{variables_of};
+ghost use Rattle.snmp_ber.specs.Level.{level_number};
 ghost use Rattle.snmp_ber.specs.declared.level.Level.TheVariants.{NoAuthNoPriv};
+ghost use Rattle.usm_users.specs.Users.{HasUserAt};
+ghost use Rattle.snmp_outgoing.specs.Bodies.{has_auth};
 ghost use Rattle.snmp_incoming.specs.Answers.{given_of};
-ghost use Rattle.snmp_listener.specs.Wanted.{InNotifyView, IsForManager, IsNamed, IsUnwanted, IsWanted};
-ghost use Rattle.snmp_listener.specs.Wanted.{notified_in};
+ghost use Rattle.snmp_listener.specs.Wanted.{InNotifyView, IsForManager, IsHighEnough, IsLow, IsNamed};
+ghost use Rattle.snmp_listener.specs.Wanted.{IsUnwanted, IsWanted, notified_in};
 
 use crate::dropped::Dropped;
 use crate::rules::{ListenerRules, is_named};
 use engine_clock::EngineId;
 use snmp_ber::{Level, Oid};
-use snmp_incoming::Taken;
+use snmp_incoming::{Kept, Taken};
+use snmp_manager::Manager;
 use snmp_msg::{
     Pdu, USER_BASED, one_content, one_cut, one_message, one_pdu, read_message, read_security,
 };
@@ -79,7 +83,32 @@ fn is_in_view(tables: &Vacm, taken: &Taken<'_>) -> bool
     is_list_seen(tables, taken, scoped.name, &pdu)
 }
 
+/// Returns true if a level is below another one, for which the user has the keys.
+fn is_below(manager: &Manager, user: &[u8], level: Level, other: Level) -> bool
+    requires { has_auth other ≡ true }
+    ensures { MatchBool result
+        (HasUserAt manager.now.users user.now other × (level_number level < level_number other))
+        (HasUserAt manager.now.users user.now other → level_number other ≤ level_number level) }
+{
+    if level >= other {
+        return false;
+    }
+    manager.supports(user, other).is_ok()
+}
+
 impl ListenerRules {
+    /// Returns true if messages of this user at this level are below the least level.
+    fn is_low(&self, manager: &Manager, user: &[u8], level: Level) -> bool
+        ensures { MatchBool result (IsLow self.now.least_level manager.now.users user.now level)
+            (IsHighEnough self.now.least_level manager.now.users user.now level) }
+    {
+        let Some(least) = self.least_level else {
+            return is_below(manager, user, level, Level::AuthPriv)
+                || is_below(manager, user, level, Level::AuthNoPriv);
+        };
+        level < least
+    }
+
     /// Returns true if messages at this level are taken from this address.
     fn takes_from(&self, level: Level, from: &[u8]) -> bool
         ensures { MatchBool result (level ≡ NoAuthNoPriv → IsNamed self.now.sources.items from.now)
@@ -112,18 +141,20 @@ impl ListenerRules {
     /// Returns why an accepted message isn't to be told. None: it is, unless it was told before.
     pub(crate) fn reason_against(
         &self,
+        manager: &Manager,
         tables: &Vacm,
         tag: u8,
         from: &[u8],
         taken: &Taken<'_>,
     ) -> Option<Dropped>
-        ensures { MatchOption result (IsWanted self.now tables.now tag from.now (given_of taken.now))
-            (IsUnwanted self.now tables.now tag from.now (given_of taken.now)) }
+        ensures { MatchOption result
+            (IsWanted self.now manager.now.users tables.now tag from.now (given_of taken.now))
+            (IsUnwanted self.now manager.now.users tables.now tag from.now (given_of taken.now)) }
     {
         if taken.tag != tag {
             return Some(Dropped::OtherPdu);
         }
-        if taken.level < self.least_level {
+        if self.is_low(manager, taken.user, taken.level) {
             return Some(Dropped::LowLevel);
         }
         if !self.takes_from(taken.level, from) {
@@ -133,5 +164,21 @@ impl ListenerRules {
             return Some(Dropped::OutsideView);
         }
         None
+    }
+
+    /// Returns the same of a message that was kept.
+    pub(crate) fn reason_against_kept(
+        &self,
+        manager: &Manager,
+        tables: &Vacm,
+        tag: u8,
+        from: &[u8],
+        kept: &Kept,
+    ) -> Option<Dropped>
+        ensures { MatchOption result (IsWanted self.now manager.now.users tables.now tag from.now kept.now)
+            (IsUnwanted self.now manager.now.users tables.now tag from.now kept.now) }
+    {
+        let taken = kept.taken();
+        self.reason_against(manager, tables, tag, from, &taken)
     }
 }

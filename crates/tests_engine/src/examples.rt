@@ -1,5 +1,6 @@
 //! An example of each library: `tools/crate-examples` puts it at the head of the library's root file.
 mod of_engine_clock;
+mod of_listener_handles;
 mod of_snmp_agent;
 mod of_snmp_agent_statuses;
 mod of_snmp_ber;

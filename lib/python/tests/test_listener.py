@@ -19,7 +19,7 @@ from test_aio import ENGINE, Quiet, config
 from test_files import WITH_PASSWORDS, pairs, words
 
 import snmpsec
-from snmpsec import Agent, Level, Manager, Pdu, Refusal, binding, notifications, targets
+from snmpsec import Agent, Level, Manager, Pdu, Refusal, binding, targets
 from snmpsec.aio import Client, Listener, Target
 from snmpsec.notifications import SNMP_TRAP_OID, SYS_UP_TIME, Dropped
 from snmpsec.values import BadValue, ObjectId, TimeTicks, Variable
@@ -120,12 +120,30 @@ class Levels(Listening):
             self.assertEqual((found.level, listener.dropped), (Level.AUTH_NO_PRIV, {Dropped.LOW_LEVEL: 1}))
 
     async def test_a_lower_least_level(self):
-        async with self.listener(least_level=Level.NO_AUTH_NO_PRIV) as listener:
+        async with self.listener(least_level=Level.NO_AUTH_NO_PRIV, sources=["192.0.2.1", "127.0.0.1"]) as listener:
             sender = self.sender()
             datagrams = [make(level) for level in Level for make in (lambda it: trap(sender, it), inform)]
             found = await self.told(listener, *datagrams)
             self.assertEqual([it.level for it in found], [level for level in Level for _ in range(2)])
             self.assertEqual((listener.dropped, self.acknowledged()), ({}, 3))
+
+    async def test_without_authentication_from_an_address_that_is_not_named(self):
+        async with self.listener(least_level=Level.NO_AUTH_NO_PRIV, sources=["192.0.2.1"]) as listener:
+            datagrams = [make(level) for level in Level for make in (lambda it: trap(self.sender(), it), inform)]
+            found = await self.told(listener, *datagrams)
+            self.assertEqual({it.level for it in found}, {Level.AUTH_NO_PRIV, Level.AUTH_PRIV})
+            self.assertEqual((listener.dropped, self.acknowledged()), ({Dropped.ADDRESS: 2}, 2))
+
+    async def test_outside_of_the_notify_view(self):
+        rows = ("[[context]]\nname = ''\n[[group]]\nmodel = 3\nname = 'ann'\ngroup = 'few'\n[[access]]\ngroup = 'few'\nprefix = ''\nmodel = 3\n"
+                "level = 'authPriv'\nmatch = 'prefix'\nnotify = 'few'\n"
+                "[[family]]\nview = 'few'\nsubtree = '1.3.6.1.2.1.1'\ninclude = true\n"
+                "[[family]]\nview = 'few'\nsubtree = '1.3.6.1.6.3'\ninclude = true\n")
+        hidden = binding(ObjectId("1.3.6.1.4.1.9.1"), 2, b"\7")
+        async with self.listener(lambda: bytearray(bytes(config()) + rows.encode())) as listener:
+            found = await self.told(listener, trap(self.sender(), octets=hidden), inform(octets=hidden), inform())
+            self.assertEqual([it.is_inform for it in found], [True])
+            self.assertEqual((listener.dropped, self.acknowledged()), ({Dropped.VIEW: 2}, 1))
 
     async def test_what_is_refused_is_counted_by_its_reason(self):
         wrong = targets.configuration("ann", "sha256", b"wrongpassword", b"syrupmaple")
@@ -165,13 +183,13 @@ class Copies(Listening):
             self.assertEqual([it.is_inform for it in found], [False, True])
             self.assertEqual((listener.dropped, self.acknowledged()), ({Dropped.COPY: 4}, 3))
 
-    def test_are_forgotten_when_they_are_refused_anyway(self):
-        copies = notifications._Copies()
-        for now in range(0, 3000, 100):
-            copies.begin(now)
-            copies.add(now)
-            self.assertTrue(all(copies.has(it) for it in range(max(0, now - 300), now + 1, 100)))
-            self.assertFalse(any(copies.has(it) for it in range(0, now - 700, 100)))
+    def test_how_many_are_remembered(self):
+        now = int(time.time())
+        with snmpsec.Receiver(config(), engine=ENGINE, boots=1, started=now, most=2) as receiver:
+            traps = [trap(self.sender()) for _ in range(3)]
+            told = [receiver.take(now, b"", it, salt).event for salt, it in enumerate((*traps, traps[0]))]
+        expected = [snmpsec.NotifyEvent.TRAP] * 2 + [snmpsec.NotifyEvent.NO_ROOM, snmpsec.NotifyEvent.COPY]
+        self.assertEqual(told, expected)
 
 
 class Values(Listening):
@@ -202,7 +220,7 @@ class Values(Listening):
 
 class Commands(unittest.TestCase):
     def test_lines_and_counts(self):
-        for least, levels in ("", [3]), ("--least-level nanp", [1, 2, 3]), ("--least-level authNoPriv --json", [2, 3]):
+        for least, levels in ("", [3]), ("--least-level nanp --source 127.0.0.1", [1, 2, 3]), ("--least-level authNoPriv --json", [2, 3]):
             with tempfile.TemporaryDirectory() as folder, Agent(config(), SENDER, 1, int(time.monotonic())) as sender:
                 self.lines_and_counts(least.split(), levels, pathlib.Path(folder), sender)
 

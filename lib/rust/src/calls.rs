@@ -149,6 +149,18 @@ pub struct Sealing<'a> {
 }
 
 #[repr(C)]
+#[derive(Clone, Copy)]
+pub struct ListenerSettings<'a> {
+    pub least_level: u32,
+    pub boots: u32,
+    pub started: u64,
+    pub clocks_moment: u64,
+    pub most: usize,
+    pub engine: Octets<'a>,
+    pub clocks: Octets<'a>,
+}
+
+#[repr(C)]
 #[derive(Clone, Copy, Debug, Default)]
 pub struct GateInfo {
     pub request: u64,
@@ -445,6 +457,53 @@ extern "C" {
         out: *mut Clock,
     ) -> i32;
     pub fn snmpsec_manager_seal(manager: *mut Opaque, sealing: *const Sealing<'_>) -> i32;
+    pub fn snmpsec_listener_free(listener: *mut Opaque);
+    pub fn snmpsec_listener_new(
+        config: *const u8,
+        config_len: usize,
+        settings: *const ListenerSettings<'_>,
+        sources: *const Octets<'_>,
+        sources_len: usize,
+        out: *mut *mut Opaque,
+    ) -> i32;
+    pub fn snmpsec_listener_take(
+        listener: *mut Opaque,
+        now: u64,
+        source: *const u8,
+        source_len: usize,
+        datagram: *const u8,
+        datagram_len: usize,
+        salt: u64,
+        event: *mut u32,
+        why: *mut i32,
+    ) -> i32;
+    pub fn snmpsec_listener_info(listener: *mut Opaque, out: *mut Info) -> i32;
+    pub fn snmpsec_listener_part(
+        listener: *mut Opaque,
+        part: u32,
+        out: *mut u8,
+        out_len: usize,
+        written: *mut usize,
+    ) -> i32;
+    pub fn snmpsec_listener_message(
+        listener: *mut Opaque,
+        out: *mut u8,
+        out_len: usize,
+        written: *mut usize,
+    ) -> i32;
+    pub fn snmpsec_listener_count(listener: *mut Opaque, reason: u32, out: *mut u64) -> i32;
+    pub fn snmpsec_listener_save(
+        listener: *mut Opaque,
+        out: *mut u8,
+        out_len: usize,
+        written: *mut usize,
+    ) -> i32;
+    pub fn snmpsec_listener_clock(
+        listener: *mut Opaque,
+        engine: *const u8,
+        engine_len: usize,
+        out: *mut Clock,
+    ) -> i32;
     pub fn snmpsec_gate_free(gate: *mut Opaque);
     pub fn snmpsec_gate_fault(
         config: *const u8,

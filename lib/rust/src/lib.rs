@@ -114,7 +114,8 @@
 //! # }
 //! ```
 //!
-//! A [`Forwarder`] sends Traps of these devices on to receivers that speak SNMPv3, as Traps or as Informs.
+//! A [`Forwarder`] sends Traps of these devices on to receivers that speak SNMPv3, as Traps or as Informs. A
+//! [`Listener`] is such a receiver: it reports each notification once, and acknowledges Informs.
 //!
 //! A message that is answered later is kept outside of its agent, and any number may wait so:
 //!
@@ -161,6 +162,7 @@ mod gate;
 mod held;
 mod kept;
 mod keys;
+mod listener;
 mod manager;
 mod octets;
 mod words;
@@ -177,6 +179,7 @@ pub use gate::{
 };
 pub use kept::{Kept, Response};
 pub use keys::{localise, mac, open, password_key, seal, wipe, Protocol};
+pub use listener::{Dropped, Listener, Listening, Notified};
 pub use manager::{Answer, Clock, Manager, Reply, Report, Request, Sealing};
 pub use words::{Access, Info, Level, Part, Pdu, Status, Unhandled, View};
 

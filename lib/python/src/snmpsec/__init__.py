@@ -51,7 +51,7 @@ __version__ = "0.1.0"
 __all__ = ["Access", "Agent", "Answered", "AuthProtocol", "BadArgument", "BadBindings", "BadClocks", "BadConfiguration", "Binding", "Clock", "ConfigFault",
            "ConfigKey", "ConfigReason", "ConfigTable", "Counters", "Counts", "Device", "Ended", "Error", "ForwardEvent", "Forwarded", "Forwarder", "Gate", "GateAnswer",
            "GateDevice", "GateEvent", "GateReceiver", "GateSent", "Info", "InformMessage", "Kept", "Known", "LARGEST", "Level", "Manager", "Misfit", "NO_CLOCKS",
-           "NotAsked", "NothingTaken", "Part", "Pdu", "ReceiverTaken", "Refusal", "Refused", "Reply", "Report", "Status", "Step", "TooManyRequests", "TrapTaken",
+           "NotAsked", "NothingTaken", "Notified", "NotifyEvent", "Part", "Pdu", "Receiver", "ReceiverTaken", "Refusal", "Refused", "Reply", "Report", "Status", "Step", "TooManyRequests", "TrapTaken",
            "Unhandled", "View", "binding", "bindings", "config_fault", "datagram_user", "gate_fault", "localise", "mac", "open_text",
            "password_key", "scoped_pdu", "seal_text", "status_of", "value_is", "version"]
 
@@ -946,3 +946,4 @@ class Manager(_Held):
 
 from .gate import Ended, Gate, GateAnswer, GateDevice, GateEvent, GateReceiver, GateSent, Misfit, datagram_user, gate_fault  # noqa: E402  (it needs what stands above)
 from .forward import ForwardEvent, Forwarded, Forwarder, InformMessage, ReceiverTaken, TrapTaken  # noqa: E402
+from .receiver import Notified, NotifyEvent, Receiver  # noqa: E402

@@ -159,6 +159,18 @@ class Sealing(ctypes.Structure):
     ]
 
 
+class ListenerSettings(ctypes.Structure):
+    _fields_ = [
+        ("least_level", c_uint32),
+        ("boots", c_uint32),
+        ("started", c_uint64),
+        ("clocks_moment", c_uint64),
+        ("most", c_size_t),
+        ("engine", Octets),
+        ("clocks", Octets),
+    ]
+
+
 class GateInfo(ctypes.Structure):
     _fields_ = [
         ("request", c_uint64),
@@ -295,6 +307,25 @@ SIGNATURES = {
     "manager_save": (c_int, [c_void_p, POINTER(c_char), c_size_t, POINTER(c_size_t)]),
     "manager_clock": (c_int, [c_void_p, c_char_p, c_size_t, POINTER(Clock)]),
     "manager_seal": (c_int, [c_void_p, POINTER(Sealing)]),
+    "listener_free": (None, [c_void_p]),
+    "listener_new": (
+        c_int,
+        [
+            c_char_p, c_size_t, POINTER(ListenerSettings), POINTER(Octets), c_size_t, POINTER(c_void_p),
+        ],
+    ),
+    "listener_take": (
+        c_int,
+        [
+            c_void_p, c_uint64, c_char_p, c_size_t, c_char_p, c_size_t, c_uint64, POINTER(Enumeration), POINTER(c_int),
+        ],
+    ),
+    "listener_info": (c_int, [c_void_p, POINTER(Info)]),
+    "listener_part": (c_int, [c_void_p, c_uint, POINTER(c_char), c_size_t, POINTER(c_size_t)]),
+    "listener_message": (c_int, [c_void_p, POINTER(c_char), c_size_t, POINTER(c_size_t)]),
+    "listener_count": (c_int, [c_void_p, c_uint32, POINTER(c_uint64)]),
+    "listener_save": (c_int, [c_void_p, POINTER(c_char), c_size_t, POINTER(c_size_t)]),
+    "listener_clock": (c_int, [c_void_p, c_char_p, c_size_t, POINTER(Clock)]),
     "gate_free": (None, [c_void_p]),
     "gate_fault": (c_int, [c_char_p, c_size_t, POINTER(c_char), c_size_t, POINTER(c_size_t)]),
     "gate_new": (c_int, [c_char_p, c_size_t, c_uint32, c_uint64, POINTER(c_void_p)]),

@@ -361,6 +361,8 @@ def listen() -> int:
     parser.add_argument("--count", metavar="COUNT", type=int, help="end after so many")
     parser.add_argument("--least-level", metavar="LEVEL", choices=sorted(LEVELS), help="drop notifications below this "
                         "level (the highest level for which their user has passwords)")
+    parser.add_argument("--source", metavar="ADDRESS", action="append", default=[], dest="sources",
+                        help="accept notifications at noAuthNoPriv from this address; it may be given again")
     parser.add_argument("--clocks", metavar="FILE",
                         help="the saved clocks of the senders, which are read before and saved as they are learned")
     parser.add_argument("host", metavar="[ADDRESS:]PORT", nargs="?", default="0.0.0.0:162", help="where to listen (0.0.0.0:162)")
@@ -370,7 +372,8 @@ def listen() -> int:
         host, port = ("0.0.0.0", int(given.host)) if given.host.isdecimal() else place_of(given.host, 162)
         least = None if given.least_level is None else LEVELS[given.least_level]
         listener: Listener = _with_configuration(given, lambda config: Listener(
-            config, engine=engine, boots=boots, host=host, port=port, clocks=given.clocks, least_level=least))
+            config, engine=engine, boots=boots, host=host, port=port, clocks=given.clocks, least_level=least,
+            sources=given.sources))
         async with listener:
             try:
                 await _print_notifications(listener, given.count, given.json)

@@ -3,7 +3,7 @@ from __future__ import annotations
 
 import asyncio
 import contextlib
-import hashlib
+import ipaddress
 import secrets
 import socket
 import time
@@ -11,9 +11,9 @@ from collections import Counter, deque
 from dataclasses import dataclass
 from enum import Enum
 from functools import cached_property
-from typing import Any, AsyncIterator, Deque, Dict, Iterable, List, Mapping, Optional, Set, Tuple, Union
+from typing import Any, AsyncIterator, Deque, Dict, Iterable, List, Mapping, Optional, Tuple, Union
 
-from . import NO_CLOCKS, Agent, Buffer, Level, Manager, Part, Pdu, Refusal, Refused, binding, bindings
+from . import NO_CLOCKS, Agent, Buffer, Level, NotifyEvent, Part, Receiver, Refusal, binding, bindings
 from .files import Path, clocks_at, engine_boots, save_clocks
 from .targets import Target
 from .values import Name, ObjectId, TimeTicks, Value, Variable, decode, encode
@@ -25,7 +25,6 @@ Variables = Union[Mapping[Name, Value], Iterable[Tuple[Name, Value]]]
 SYS_UP_TIME, SNMP_TRAP_OID = ObjectId("1.3.6.1.2.1.1.3.0"), ObjectId("1.3.6.1.6.3.1.1.4.1.0")
 _PARTS = Part.USER, Part.ENGINE, Part.CONTEXT_ENGINE, Part.CONTEXT_NAME, Part.BINDINGS
 _MOST_WAITING, _MOST_OCTETS = 4096, 4 << 20
-_ACCEPTED_AGAIN, _MOST_COPIES = 301, 1 << 20  # seconds, and digests in so many
 
 
 def listed(variables: Variables) -> List[Tuple[ObjectId, Value]]:
@@ -41,6 +40,12 @@ def variables_of(octets: bytes) -> List[Variable]:
 def notified(notification: Name, variables: Variables, uptime: float) -> List[Tuple[ObjectId, Value]]:
     """The bindings of a notification: its time and its name come first (RFC 3416, section 4.2.6)."""
     return [(SYS_UP_TIME, TimeTicks(int(uptime * 100) % (1 << 32))), (SNMP_TRAP_OID, ObjectId(notification)), *listed(variables)]
+
+
+def _source(host: str) -> bytes:
+    """The octets by which an address is known: as `ipaddress` writes it, without an interface, and IPv4 as IPv4."""
+    it = ipaddress.ip_address(host.partition("%")[0])
+    return str(it.ipv4_mapped or it if isinstance(it, ipaddress.IPv6Address) else it).encode()
 
 
 @dataclass(frozen=True)
@@ -73,9 +78,11 @@ class Notification:
 
 
 class Dropped(Enum):
-    """Why a listener drops a datagram that the library doesn't refuse."""
+    """Why a datagram isn't reported that the library doesn't refuse."""
 
     LOW_LEVEL = "below the least level"
+    ADDRESS = "without authentication, from another address"
+    VIEW = "outside of its user's notify view"
     COPY = "a copy"
     OTHER = "not a notification"
     NO_ROOM = "no room"
@@ -84,29 +91,8 @@ class Dropped(Enum):
         return self.value
 
 
-class _Copies:
-    """The digests of what was told, for as long as it can be accepted again: it is up to 150 seconds before or after
-    its engine's time (RFC 3414, section 2.2.3)."""
-
-    def __init__(self) -> None:
-        self._since = 0
-        self._recent: Set[bytes] = set()
-        self._older: Set[bytes] = set()
-
-    def begin(self, now: int) -> None:
-        """Forgets what is too old at this time in seconds."""
-        if now - self._since >= _ACCEPTED_AGAIN:
-            self._older = self._recent if now - self._since < 2 * _ACCEPTED_AGAIN else set()
-            self._recent, self._since = set(), now
-
-    def has(self, digest: bytes) -> bool:
-        return digest in self._recent or digest in self._older
-
-    def is_full(self) -> bool:
-        return len(self._recent) >= _MOST_COPIES
-
-    def add(self, digest: bytes) -> None:
-        self._recent.add(digest)
+_DROPPED = {NotifyEvent.OTHER_PDU: Dropped.OTHER, NotifyEvent.LOW_LEVEL: Dropped.LOW_LEVEL, NotifyEvent.OTHER_ADDRESS: Dropped.ADDRESS,
+            NotifyEvent.OUTSIDE_VIEW: Dropped.VIEW, NotifyEvent.COPY: Dropped.COPY, NotifyEvent.NO_ROOM: Dropped.NO_ROOM}
 
 
 class Listener(asyncio.DatagramProtocol):
@@ -114,9 +100,10 @@ class Listener(asyncio.DatagramProtocol):
     1.5.1), each of which is acknowledged once it waits to be read. At most 4,096 wait, of datagrams of 4 MiB at most;
     a later one is dropped, so that its sender sends it again.
 
-    A notification is at `least_level` or above it; without `least_level`, at the highest level for which its user has
-    passwords. Of copies one is reported, and each copy of an Inform is acknowledged. `dropped` counts what isn't told, by
-    its Refusal or why it is Dropped, except discoveries that are answered by a Report.
+    The library decides what is reported. A notification is at `least_level` or above it; without `least_level`, at the
+    highest level for which its user has passwords. At noAuthNoPriv it comes from one of the addresses `sources`. If the
+    configuration gives its user a notify view, it is in that. Of copies one is reported, and each copy of an Inform is
+    acknowledged. `dropped` counts what isn't told, by its Refusal or why it is Dropped.
 
     `engine` is the receiver's own engine ID, and `boots` the file that counts its boots, which nobody else may use.
     `clocks` is the file of what is known of the senders' engines. New boots are saved before a notification is reported,
@@ -124,24 +111,28 @@ class Listener(asyncio.DatagramProtocol):
     """
 
     def __init__(self, config: Buffer, *, engine: bytes, boots: Path, host: str = "0.0.0.0", port: int = 162,
-                 clocks: Optional[Path] = None, least_level: Optional[Level] = None):
-        self.dropped: Counter[Union[Refusal, Dropped]] = Counter()
-        self._local, self._own_engine, self._clocks, self._least_level = (host, port), engine, clocks, least_level
+                 clocks: Optional[Path] = None, least_level: Optional[Level] = None, sources: Iterable[str] = ()):
+        self._local, self._clocks = (host, port), clocks
         self._held = contextlib.ExitStack()
         self._came: Deque[Tuple[int, Notification]] = deque()
         self._octets = 0  # of the datagrams of what came
+        self._without_room = 0
+        self._last_count: Mapping[Union[Refusal, NotifyEvent], int] = {}
         self._wakes = asyncio.Event()
         self._is_ended = self._is_unsaved = False
-        self._highest: Dict[bytes, Level] = {}
         self._boots: Dict[bytes, int] = {}
-        self._copies = _Copies()
         self._transport: Optional[asyncio.DatagramTransport] = None
+        self._since = time.time() - time.monotonic()  # (so that moments don't go back)
+        named = [_source(it) for it in sources]
         with contextlib.ExitStack() as held:
             saved = NO_CLOCKS if clocks is None else clocks_at(clocks)
             count = held.enter_context(engine_boots(boots))
-            self.agent: Agent = held.enter_context(Agent(config, engine, count, int(time.monotonic())))
-            self.manager: Manager = held.enter_context(Manager(config, saved, int(time.time())))
+            self.receiver: Receiver = held.enter_context(Receiver(
+                config, engine=engine, boots=count, started=self._now(), clocks=saved, least_level=least_level, sources=named))
             self._held = held.pop_all()
+
+    def _now(self) -> int:
+        return int(self._since + time.monotonic())
 
     async def __aenter__(self) -> Listener:
         family = socket.AF_INET6 if ":" in self._local[0] else socket.AF_INET
@@ -161,10 +152,22 @@ class Listener(asyncio.DatagramProtocol):
     def close(self) -> None:
         """Closes the socket, saves the clocks and wipes the keys."""
         self.end()
+        self._counted()
         clocks, self._clocks, self._is_unsaved = self._clocks, None, False
         with self._held:
             if clocks is not None:
-                save_clocks(clocks, self.manager.saved())
+                save_clocks(clocks, self.receiver.saved())
+
+    @property
+    def dropped(self) -> Counter[Union[Refusal, Dropped]]:
+        """How many datagrams weren't reported, by the reason. A discovery, which is answered, is an UNKNOWN_ENGINE."""
+        told = {_DROPPED[why] if isinstance(why, NotifyEvent) else why: count for why, count in self._counted().items()}
+        return Counter(told) + Counter({Dropped.NO_ROOM: self._without_room})
+
+    def _counted(self) -> Mapping[Union[Refusal, NotifyEvent], int]:
+        with contextlib.suppress(ValueError):  # (it is closed)
+            self._last_count = self.receiver.dropped()
+        return self._last_count
 
     @property
     def address(self) -> Tuple[str, int]:
@@ -193,7 +196,7 @@ class Listener(asyncio.DatagramProtocol):
         assert self._clocks is not None
         self._is_unsaved = False
         try:
-            await asyncio.get_running_loop().run_in_executor(None, save_clocks, self._clocks, self.manager.saved())
+            await asyncio.get_running_loop().run_in_executor(None, save_clocks, self._clocks, self.receiver.saved())
         except BaseException:
             self._is_unsaved = True
             raise
@@ -204,89 +207,31 @@ class Listener(asyncio.DatagramProtocol):
         if self._is_ended:
             return
         if len(self._came) >= _MOST_WAITING or self._octets + len(datagram) > _MOST_OCTETS:
-            return self._drop(Dropped.NO_ROOM)
-        now = int(time.monotonic())
-        refusal = self.agent.take(now, datagram)
-        report = self.agent.message() if refusal else None
-        if refusal is None:
-            self._take(self.agent, now, datagram, address)
-        elif report is not None:
-            self._send(report, address)
-            if refusal is not Refusal.UNKNOWN_ENGINE:
-                self._drop(refusal)
-        else:
-            if refusal is Refusal.UNKNOWN_ENGINE:
-                refusal = self.manager.take(int(time.time()), datagram)
-            if refusal is None:
-                self._learn()
-                self._take(self.manager, now, datagram, address)
-            else:
-                self._drop(refusal)
-
-    def _drop(self, why: Union[Refusal, Dropped]) -> None:
-        self.dropped[why] += 1
-
-    def _send(self, message: Optional[bytes], address: Tuple[Any, ...]) -> None:
-        assert self._transport is not None and message is not None
-        self._transport.sendto(message, address)
-
-    def _learn(self) -> None:
-        """What a trap taught is to be saved, if its engine has other boots than those that were saved."""
-        engine = self.manager.part(Part.ENGINE) or b""
-        clock = self.manager.clock(engine)
-        if self._clocks is not None and clock is not None and self._boots.get(engine) != clock.boots:
-            self._boots[engine], self._is_unsaved = clock.boots, True
-
-    def _least(self, user: bytes) -> Level:
-        if self._least_level is not None:
-            return self._least_level
-        if user not in self._highest:
-            levels = [it for it in (Level.AUTH_PRIV, Level.AUTH_NO_PRIV) if self._has_keys(user, it)]
-            self._highest[user] = max(levels, default=Level.NO_AUTH_NO_PRIV)
-        return self._highest[user]
-
-    def _has_keys(self, user: bytes, level: Level) -> bool:
-        """Whether the user has the passwords for the level, which the library says as it writes a message."""
-        try:
-            self.manager.request(int(time.time()), Pdu.GET, engine=self._own_engine, user=user, level=level,
-                                 octets=b"", salt=secrets.randbits(64), message_id=0)
-        except Refused as fault:
-            return fault.refusal is not Refusal.UNSUPPORTED_LEVEL
-        return True
-
-    def _take(self, held: Union[Agent, Manager], now: int, datagram: bytes, address: Tuple[Any, ...]) -> None:
-        """A message was accepted, by the agent or the manager: it is reported if it is a notification that is wanted and
-        no copy."""
-        info, is_inform = held.info(), held is self.agent
-        parts = [held.part(it) or b"" for it in _PARTS]
-        if info is None or info.pdu != (Pdu.INFORM if is_inform else Pdu.TRAP):
-            return self._drop(Dropped.OTHER)
-        if info.level < self._least(parts[0]):
-            return self._drop(Dropped.LOW_LEVEL)
-        self._copies.begin(now)
-        digest = hashlib.blake2b(datagram, digest_size=16).digest()
-        is_copy = self._copies.has(digest)
-        if not is_copy and self._copies.is_full():
-            return self._drop(Dropped.NO_ROOM)
-        if is_inform and not self._acknowledge(now, parts[4], address):
+            self._without_room += 1
             return
-        if is_copy:
-            return self._drop(Dropped.COPY)
-        self._copies.add(digest)
-        self._octets += len(datagram)
-        place, user = (address[0], address[1]), parts[0].decode(errors="replace")
-        self._came.append((len(datagram), Notification(place, is_inform, user, info.level, *parts[1:])))
+        taken = self.receiver.take(self._now(), _source(address[0]), datagram, secrets.randbits(64))
+        message = self.receiver.message()
+        if message is not None and self._transport is not None:
+            self._transport.sendto(message, address)
+        if taken.event in (NotifyEvent.TRAP, NotifyEvent.INFORM):
+            self._tell(taken.event is NotifyEvent.INFORM, len(datagram), address)
+
+    def _tell(self, is_inform: bool, size: int, address: Tuple[Any, ...]) -> None:
+        info = self.receiver.info()
+        assert info is not None, "it was reported"
+        user, engine, *parts = [self.receiver.part(it) or b"" for it in _PARTS]
+        if not is_inform:
+            self._learn(engine)
+        self._octets += size
+        place = address[0], address[1]
+        self._came.append((size, Notification(place, is_inform, user.decode(errors="replace"), info.level, engine, *parts)))
         self._wakes.set()
 
-    def _acknowledge(self, now: int, octets: bytes, address: Tuple[Any, ...]) -> bool:
-        """Answers an Inform with its own bindings (RFC 3416, section 4.2.7)."""
-        try:
-            self.agent.respond(now, octets, secrets.randbits(64))
-        except Refused as fault:
-            self._drop(fault.refusal)
-            return False
-        self._send(self.agent.message(), address)
-        return True
+    def _learn(self, engine: bytes) -> None:
+        """What a trap taught is to be saved, if its engine has other boots than those that were saved."""
+        clock = self.receiver.clock(engine)
+        if self._clocks is not None and clock is not None and self._boots.get(engine) != clock.boots:
+            self._boots[engine], self._is_unsaved = clock.boots, True
 
 
 class TrapSender:

@@ -1,7 +1,6 @@
 use Rattle.std.proofs.Common.{Bool, ℕ, List, None, Option, refl, subst}
 use Rattle.std.specs.Prelude.{Result}
 use Rattle.snmp_message.specs.Numbers.{MemoryIs}
-use Rattle.snmp_incoming.specs.Answers.{given_of}
 use Rattle.snmp_incoming.specs.Outcome.{Given}
 use Rattle.snmp_manager.specs.Takes.{Takes}
 use Rattle.vacm_core.specs.Tables.{Tables}
@@ -18,7 +17,7 @@ returns-in-Err-clause-takes c = λ salt.
     let told = subst (λ (b : Bool). MemoryIs c.in-Err.fault.refusal b) c.if-is_memory.false c.is_memory.ensures in
     rw c.silent_drop.ensures
     (record {
-      answers = (c.requires.is, subst (λ (o : Option (Result Given _)). Takes c.args.self.now.manager c.args.now c.args.datagram.now o c.take.new.self) (refused_answer c.in-Err.fault.refusal told) c.in-Err.ensures.takes, refl);
+      answers = (c.requires.is, subst (λ (o : Option (Result Given _)). Takes c.args.self.now.manager c.args.now c.args.datagram.now o c.take_kept.new.self) (refused_answer c.in-Err.fault.refusal told) c.in-Err.ensures.takes, refl);
       reports = refl;
       notes = refl;
     })
@@ -26,39 +25,39 @@ returns-in-Err-clause-takes c = λ salt.
 pub returns-in-Some-clause-takes : goal.returns-in-Some-clause-takes
 returns-in-Some-clause-takes c = λ salt.
     let a = c.args in
-    let g = given_of c.in-Ok.taken in
+    let g = c.in-Ok.kept in
     rw c.silent_drop-in-Some.ensures
     (drops_unfit trap (state_of a.self.now) a.now a.from.now a.datagram.now salt c.in-Some.why _ (record {
       given = g;
       answers = (c.requires.is, c.in-Ok.ensures.takes, refl);
-      unwanted = subst (λ (t : Tables). IsUnwanted a.self.now.rules t (tag_of trap) a.from.now g c.in-Some.why) c.tables.ensures (subst (λ (n : ℕ). IsUnwanted a.self.now.rules c.tables.result.now n a.from.now g c.in-Some.why) c.tag-tag.ensures.value c.in-Some.ensures);
+      unwanted = subst (λ (t : Tables). IsUnwanted a.self.now.rules c.take_kept.new.self.users t (tag_of trap) a.from.now g c.in-Some.why) c.tables-tables.ensures (subst (λ (n : ℕ). IsUnwanted a.self.now.rules c.take_kept.new.self.users c.tables-tables.result.now n a.from.now g c.in-Some.why) c.tag-tag.ensures.value c.in-Some.ensures);
       notes = refl;
     }))
 
 pub returns-in-New-clause-takes : goal.returns-in-New-clause-takes
 returns-in-New-clause-takes c = λ salt.
     let a = c.args in
-    let g = given_of c.in-Ok.taken in
-    let clocks = c.take.new.self.clocks in
+    let g = c.in-Ok.kept in
+    let clocks = c.take_kept.new.self.clocks in
     let most = a.self.now.rules.most in
     let old = a.self.now.told.list.items in
     let new = c.note.new.self.list.items in
     record {
       fit = record {
         answers = (c.requires.is, c.in-Ok.ensures.takes, refl);
-        wanted = subst (λ (t : Tables). IsWanted a.self.now.rules t (tag_of trap) a.from.now g) c.tables.ensures (subst (λ (n : ℕ). IsWanted a.self.now.rules c.tables.result.now n a.from.now g) c.tag-tag.ensures.value c.in_default.ensures);
+        wanted = subst (λ (t : Tables). IsWanted a.self.now.rules c.take_kept.new.self.users t (tag_of trap) a.from.now g) c.tables-tables.ensures (subst (λ (n : ℕ). IsWanted a.self.now.rules c.take_kept.new.self.users c.tables-tables.result.now n a.from.now g) c.tag-tag.ensures.value c.in_default.ensures);
       };
       answered = refl;
       notes =
           subst (λ (d : List ℕ). IsNoted a.now clocks most (told_now a.now d (sender_of g clocks)) old new notes.New) c.digest_of-digest.ensures
-          (subst (λ (s : Option ToldSender). IsNoted a.now clocks most (told_now a.now c.digest_of-digest.result s) old new notes.New) c.sender_of-sender.ensures c.in-New.ensures);
+          (subst (λ (s : Option ToldSender). IsNoted a.now clocks most (told_now a.now c.digest_of-digest.result s) old new notes.New) c.sender_of_kept-sender.ensures c.in-New.ensures);
     }
 
 pub returns-in-Copy-clause-takes : goal.returns-in-Copy-clause-takes
 returns-in-Copy-clause-takes c = λ salt.
     let a = c.args in
-    let g = given_of c.in-Ok.taken in
-    let clocks = c.take.new.self.clocks in
+    let g = c.in-Ok.kept in
+    let clocks = c.take_kept.new.self.clocks in
     let most = a.self.now.rules.most in
     let old = a.self.now.told.list.items in
     let new = c.note.new.self.list.items in (
@@ -66,20 +65,20 @@ returns-in-Copy-clause-takes c = λ salt.
       record {
         fit = record {
           answers = (c.requires.is, c.in-Ok.ensures.takes, refl);
-          wanted = subst (λ (t : Tables). IsWanted a.self.now.rules t (tag_of trap) a.from.now g) c.tables.ensures (subst (λ (n : ℕ). IsWanted a.self.now.rules c.tables.result.now n a.from.now g) c.tag-tag.ensures.value c.in_default.ensures);
+          wanted = subst (λ (t : Tables). IsWanted a.self.now.rules c.take_kept.new.self.users t (tag_of trap) a.from.now g) c.tables-tables.ensures (subst (λ (n : ℕ). IsWanted a.self.now.rules c.take_kept.new.self.users c.tables-tables.result.now n a.from.now g) c.tag-tag.ensures.value c.in_default.ensures);
         };
         answered = refl;
         notes =
             subst (λ (d : List ℕ). IsNoted a.now clocks most (told_now a.now d (sender_of g clocks)) old new notes.Copy) c.digest_of-digest.ensures
-            (subst (λ (s : Option ToldSender). IsNoted a.now clocks most (told_now a.now c.digest_of-digest.result s) old new notes.Copy) c.sender_of-sender.ensures c.in-Copy.ensures);
+            (subst (λ (s : Option ToldSender). IsNoted a.now clocks most (told_now a.now c.digest_of-digest.result s) old new notes.Copy) c.sender_of_kept-sender.ensures c.in-Copy.ensures);
       },
     )
 
-pub returns-clause-takes : goal.returns-clause-takes
-returns-clause-takes c = λ salt.
+pub returns-in-NoRoom-clause-takes : goal.returns-in-NoRoom-clause-takes
+returns-in-NoRoom-clause-takes c = λ salt.
     let a = c.args in
-    let g = given_of c.in-Ok.taken in
-    let clocks = c.take.new.self.clocks in
+    let g = c.in-Ok.kept in
+    let clocks = c.take_kept.new.self.clocks in
     let most = a.self.now.rules.most in
     let old = a.self.now.told.list.items in
     let new = c.note.new.self.list.items in
@@ -91,12 +90,12 @@ returns-clause-takes c = λ salt.
         record {
           fit = record {
             answers = (c.requires.is, c.in-Ok.ensures.takes, refl);
-            wanted = subst (λ (t : Tables). IsWanted a.self.now.rules t (tag_of trap) a.from.now g) c.tables.ensures (subst (λ (n : ℕ). IsWanted a.self.now.rules c.tables.result.now n a.from.now g) c.tag-tag.ensures.value c.in_default.ensures);
+            wanted = subst (λ (t : Tables). IsWanted a.self.now.rules c.take_kept.new.self.users t (tag_of trap) a.from.now g) c.tables-tables.ensures (subst (λ (n : ℕ). IsWanted a.self.now.rules c.take_kept.new.self.users c.tables-tables.result.now n a.from.now g) c.tag-tag.ensures.value c.in_default.ensures);
           };
           answered = refl;
           notes =
               subst (λ (d : List ℕ). IsNoted a.now clocks most (told_now a.now d (sender_of g clocks)) old new notes.NoRoom) c.digest_of-digest.ensures
-              (subst (λ (s : Option ToldSender). IsNoted a.now clocks most (told_now a.now c.digest_of-digest.result s) old new notes.NoRoom) c.sender_of-sender.ensures c.in-NoRoom.ensures);
+              (subst (λ (s : Option ToldSender). IsNoted a.now clocks most (told_now a.now c.digest_of-digest.result s) old new notes.NoRoom) c.sender_of_kept-sender.ensures c.in-NoRoom.ensures);
         },
       ),
     )

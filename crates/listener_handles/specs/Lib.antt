@@ -1,0 +1,4 @@
+pub mod Events
+pub mod Rules
+pub mod Listeners
+pub mod Calls
