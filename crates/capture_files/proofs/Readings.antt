@@ -156,9 +156,6 @@ begins_known front (Some xs) (Some ys) read begins long = subst (λ o. begins_se
 pub long_section : (octets : List ℕ) → begins_section octets ≡ true → 4 ≤ length octets
 long_section octets begins = leb-true 4 (length octets) (and_parts _ _ begins).0
 
-pub least_section : (octets : List ℕ) → begins_section octets ≡ true → least_size octets ≡ 28
-least_section octets begins = ap (λ b. if b then 28 else 12) (and_parts _ _ begins).1
-
 pub none_begun : (s : InSection) (front rest : List ℕ) → begins_section front ≡ true → length front < 24 → rest ≡ [] → HasNoItem (inr s) (front ++ rest)
 none_begun s front rest begins short end = λ item more r t is e.
     let four = long_section front begins in

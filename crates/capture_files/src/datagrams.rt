@@ -6,7 +6,7 @@ ghost use Rattle.std.specs.Io.KnownBytes.{Appends, Consumes, IsAtEnd};
 ghost use Rattle.capture_files.specs.Formats.{state_of};
 ghost use Rattle.capture_files.specs.Items.{record_of};
 ghost use Rattle.capture_files.specs.Tally.{IsBelow, counts_of, none_passed};
-ghost use Rattle.capture_files.specs.Datagrams.{IsEnd, IsLogOf, IsSorted, IsSortedRecord, PrintsAs, PrintsLine};
+ghost use Rattle.capture_files.specs.Datagrams.{IsEnd, IsLogOf, IsSorted, IsSortedRecord, PrintsAs};
 ghost use Rattle.capture_files.specs.Datagrams.{Stands, StopsDatagram, StopsBy, StopsItems, StopsRecord, StopsWrite};
 ghost use Rattle.capture_files.specs.Datagrams.{WritesDatagram, WritesItem, WritesRecord};
 ghost use Rattle.capture_files.specs.Datagrams.{record_from, streams};
@@ -16,11 +16,10 @@ use crate::format::{Begun, begin, read_item};
 use crate::item::{Head, Item, Next};
 use crate::log_lines::note_line;
 use crate::packet::{Found, find_datagram};
-use crate::pcap::HEADER;
 use crate::pcapng::ROOM;
-use crate::printer::{Lines, Printer};
+use crate::printer::Printer;
 use crate::tally::{Reason, Tally};
-use snmpsec_io::{read_full, write_whole};
+use snmpsec_io::write_whole;
 use std::alloc::Global;
 use std::io::{Read, Write};
 
@@ -288,11 +287,11 @@ fn write_items<P: Printer, R: Read, L: Write, N: Write>(
     Err(CaptureFault::Octet(place))
 }
 
-/// Writes the datagrams of a capture in the format of libpcap or in pcapng as a log, a line `MOMENT HEX` for
-/// each, and counts or tells what isn't in the log: `notes` gets a line `snmpsec: record N: REASON` for each
-/// piece of a datagram, each that was cut short when it was captured, each of a length that can't be, each
-/// that is empty and each record without a moment; what else isn't a datagram from or to one of these ports is
-/// counted. MOMENT is in whole seconds, and N counts from 1.
+/// Writes what a printer makes of the datagrams of a capture in the format of libpcap or in pcapng, of which the first
+/// 24 octets were read, or all where it has fewer, and counts or tells what isn't one: `notes` gets a line
+/// `snmpsec: record N: REASON` for each piece of a datagram, each that was cut short when it was captured, each of a
+/// length that can't be, each that is empty and each record without a moment; what else isn't a datagram from or to
+/// one of these ports is counted. N counts from 1, and so do the datagrams.
 ///
 /// It holds one record at a time, of at most 262,144 octets, and of a section of pcapng what is said of its
 /// interfaces. A reader that doesn't read ahead is given in a `BufReader`, and writers in a `BufWriter`.
@@ -300,40 +299,6 @@ fn write_items<P: Printer, R: Read, L: Write, N: Write>(
 /// The errors are Octet(n), where what begins at octet n isn't a header, record or block, or n is 2^62 or more;
 /// CannotRead and CannotWrite, where a read or a write fails, or is interrupted 1,000 times in a row; and
 /// OutOfMemory. Before each of them but CannotWrite all is written that the records before come to.
-pub fn write_datagrams<R: Read, L: Write, N: Write>(
-    alloc: Global,
-    ports: &[u16],
-    reader: &mut R,
-    log: &mut L,
-    notes: &mut N,
-) -> Result<Tally, CaptureFault>
-    ensures ok { IfOk result (λ passed. IfSome (R.remaining reader.old)
-        (λ capture. (lines : List ℕ) × (tells : List ℕ)
-        × IsLogOf PrintsLine ports.now capture lines tells (counts_of passed)
-        × Appends (L.contents log.old) (L.contents log.new) lines
-        × Appends (N.contents notes.old) (N.contents notes.new) tells)) }
-    ensures err { IfErr result (StopsBy PrintsLine ports.now
-        (streams (R.remaining reader.old) (R.remaining reader.new)
-        (L.contents log.old) (L.contents log.new)
-        (N.contents notes.old) (N.contents notes.new))) }
-{
-    let mut octets = [0u8; HEADER];
-    let Ok(count) = read_full(reader, &mut octets) else {
-        return Err(CaptureFault::CannotRead);
-    };
-    print_datagrams_behind(
-        alloc,
-        &octets[..count],
-        ports,
-        &mut Lines,
-        reader,
-        log,
-        notes,
-    )
-}
-
-/// The same for a capture of which the first 24 octets were read, or all where it has fewer, with what a
-/// printer makes of each datagram instead of its line. The datagrams count from 1.
 pub fn print_datagrams_behind<P: Printer, R: Read, L: Write, N: Write>(
     alloc: Global,
     front: &[u8],

@@ -38,7 +38,7 @@ mod pcapng;
 mod printer;
 mod tally;
 
-pub use datagrams::{print_datagrams_behind, write_datagrams};
+pub use datagrams::print_datagrams_behind;
 pub use endpoints::{Route, SNMP_PORTS, route_of};
 pub use fault::CaptureFault;
 pub use field::{Order, read_16_by, read_32, read_64};

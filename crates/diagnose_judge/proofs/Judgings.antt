@@ -26,9 +26,8 @@ one_state a b users clocks = λ i. record { users = users i; clocks = clocks i }
 
 text_rows : (v : Verified) (text : List ℕ) (r : Refusal) → ReadsText v text (Err r) → r ≡ UnknownEngine → ⊥
 unfolding ReadsText
-text_rows v text r (fails never) e = cc e
-text_rows v text r (holds s (fails never)) e = cc e
 text_rows v text r (holds s (holds p is)) e = cc is
+text_rows v text r _ e = cc e
 
 opens_rows : (users : List User) (w : List ℕ) (v : Verified) (r : Refusal) → Opens users w v (Err r) → r ≡ UnknownEngine → ⊥
 unfolding Opens

@@ -17,10 +17,8 @@ own_alone (t ∷ ts) (sent_to given verdict ∷ js) old new h = subst (λ (s : H
 
 abbrev AreOwn : List Judgement → Type 0
 AreOwn [] = Unit {0}
-AreOwn (unread refusal ∷ js) = ⊥
-AreOwn (discovery ∷ js) = ⊥
 AreOwn (sent_by given in_window ∷ js) = AreOwn js
-AreOwn (sent_to given verdict ∷ js) = ⊥
+AreOwn _ = ⊥
 
 are_own : (js : List Judgement) → AreOwn (judgements_of_own js)
 are_own [] = tt
@@ -35,9 +33,6 @@ module _ (step : (old new other : Held) (now : ℕ) (w : List ℕ) (g h : Given)
   runs_one [] [] (k ∷ ks) old new other p q h x = absurd x
   runs_one [] (j ∷ js) ks old new other p q h x = absurd h
   runs_one (t ∷ ts) [] ks old new other p q h x = absurd h
-  runs_one (t ∷ ts) (unread r ∷ js) ks old new other p q h x = absurd p
-  runs_one (t ∷ ts) (discovery ∷ js) ks old new other p q h x = absurd p
-  runs_one (t ∷ ts) (sent_to g v ∷ js) ks old new other p q h x = absurd p
   runs_one (t ∷ ts) (sent_by g a ∷ js) [] old new other p q h x = absurd x
   runs_one (t ∷ ts) (sent_by g a ∷ js) (unread r ∷ ks) old new other p q h x = absurd q
   runs_one (t ∷ ts) (sent_by g a ∷ js) (discovery ∷ ks) old new other p q h x = absurd q
@@ -46,6 +41,7 @@ module _ (step : (old new other : Held) (now : ℕ) (w : List ℕ) (g h : Given)
       let first = step old h.0 x.0 t.0 t.1 g f a b h.1 x.1 in
       let rest = runs_one ts js ks h.0 new other p q h.2 (subst (λ (s : Held). HasJudged s ts ks other) (sym first.0) x.2) in
       (rest.0, λ i. first.1 i ∷ rest.1 i)
+  runs_one (t ∷ ts) _ ks old new other p q h x = absurd p
 
   pub same_own : (begin one other : Held) (xs ys : List (ℕ × List ℕ)) (js ks : List Judgement) → HasJudged begin xs js one → HasJudged begin ys ks other → own_of xs js ≡ own_of ys ks
       → (one ≡ other) × (judgements_of_own js ≡ judgements_of_own ks)

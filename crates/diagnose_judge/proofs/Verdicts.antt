@@ -4,7 +4,7 @@ use Rattle.std.specs.Prelude.{◌⊎◌, ◌↔◌, Result, Ok, Err, IsTrue, IsS
 use Rattle.snmp_ber.specs.declared.level.Level.{Level}
 use Rattle.snmp_message.specs.Level.{level_of}
 use Rattle.snmp_message.specs.declared.refusal.Refusal.{Refusal}
-use Rattle.snmp_message.specs.declared.refusal.Refusal.TheVariants.{NotMessage, BadVersion, NotSecurity, NotScoped, NotPdu, UnknownEngine, UnknownUser, UnsupportedLevel, WrongDigest, NotInWindow, DecryptionError, BadScoped, BadPdu, OutOfMemory, ClockExhausted, TooLarge, UnknownModel, InvalidFlags}
+use Rattle.snmp_message.specs.declared.refusal.Refusal.TheVariants.{UnknownUser, UnsupportedLevel, NotInWindow, DecryptionError}
 use Rattle.engine_clock.specs.Pairs.{BootsAndTime, pair_max}
 use Rattle.engine_clock.specs.Marks.{SeenPair, Marks, mark_at}
 use Rattle.engine_clock.specs.Windows.{InAgentWindow}
@@ -83,24 +83,9 @@ module _ (users : List User) (held : Marks) (now : ℕ) (w : List ℕ) (v : Veri
 
   by_user : (r : Refusal) → RefusesUser users v.fields.user (level_of v.parts.header) r
       → Outcome (as_agent v.fields.engine (clock_for held now v).boots 0) users (clock_for held now v).time w (Err r)
-  by_user NotMessage none = absurd none
-  by_user BadVersion none = absurd none
-  by_user NotSecurity none = absurd none
-  by_user NotScoped none = absurd none
-  by_user NotPdu none = absurd none
-  by_user UnknownEngine none = absurd none
   by_user UnknownUser none = no_user none
   by_user UnsupportedLevel none = absurd (none.1 (j.level none.0))
-  by_user WrongDigest none = absurd none
-  by_user NotInWindow none = absurd none
-  by_user DecryptionError none = absurd none
-  by_user BadScoped none = absurd none
-  by_user BadPdu none = absurd none
-  by_user OutOfMemory none = absurd none
-  by_user ClockExhausted none = absurd none
-  by_user TooLarge none = absurd none
-  by_user UnknownModel none = absurd none
-  by_user InvalidFlags none = absurd none
+  by_user _ none = absurd none
 
   named : HasUserAt users v.fields.user (level_of v.parts.header) → HasUser users v.fields.user
   named at = has_user (user_named users v.fields.user) (level_of v.parts.header) at
@@ -118,9 +103,8 @@ module _ (users : List User) (held : Marks) (now : ℕ) (w : List ℕ) (v : Veri
   told verdict (inr none) = subst (λ (x : Verdict). Outcome (as_agent v.fields.engine (clock_for held now v).boots 0) users (clock_for held now v).time w (verdict_answer g x)) (sym none.2) (by_user none.0 none.1)
 
 unweighed_as : (held : Marks) (now : ℕ) (v : Verified) (verdict : Verdict) → IsToldAt held now v verdict → verdict ≡ Unweighed → mark_at held v.fields.engine ≡ None
-unweighed_as held now v Accepted is e = cc e
 unweighed_as held now v Unweighed is e = is.1
-unweighed_as held now v (Refused r) is e = cc e
+unweighed_as held now v _ is e = cc e
 
 pub unweighed_at : (users : List User) (held : Marks) (now : ℕ) (v : Verified) (verdict : Verdict) → IsTold users held now v verdict → verdict ≡ Unweighed → mark_at held v.fields.engine ≡ None
 unweighed_at users held now v verdict (inl is) e = unweighed_as held now v verdict is.1 e
@@ -128,8 +112,7 @@ unweighed_at users held now v verdict (inr none) e = let wrong : ◌≡◌ {A = 
 
 weighed_as : (held : Marks) (now : ℕ) (v : Verified) (verdict : Verdict) → IsToldAt held now v verdict → verdict ≡ Accepted → v.parts.header.auth ≡ true → mark_at held v.fields.engine ≢ None
 weighed_as held now v Accepted is e auth = (is auth).1
-weighed_as held now v Unweighed is e auth = absurd (cc e)
-weighed_as held now v (Refused r) is e auth = absurd (cc e)
+weighed_as held now v _ is e auth = absurd (cc e)
 
 pub weighed_at : (users : List User) (held : Marks) (now : ℕ) (v : Verified) (verdict : Verdict) → IsTold users held now v verdict → verdict ≡ Accepted → v.parts.header.auth ≡ true → mark_at held v.fields.engine ≢ None
 weighed_at users held now v verdict (inl is) e auth = weighed_as held now v verdict is.1 e auth
