@@ -63,12 +63,13 @@ test_late() {
     end_own
 }
 
-# asked_beside SHARE: how many of 20 requests are answered beside 200 to a device that doesn't answer, of which SHARE may
-# wait at once and 16 in all
+# asked_beside SHARE: how many of 20 requests are answered beside 200 to a device that doesn't answer, of which SHARE
+# may wait at once and 16 in all
 asked_beside() {
     write_own_config "waiting = 16" "waiting-per-device = $1"
     begin_own "$programs/snmpsec-gate"
-    PYTHONPATH=$here/python/src python3 "$here/tests/silent_device.py" "$gate_port" 80001f8804676174652d32 pdu 'a "b\c' 20
+    PYTHONPATH=$here/python/src python3 "$here/tests/silent_device.py" "$gate_port" 80001f8804676174652d32 pdu \
+        'a "b\c' 20
     end_own
 }
 
