@@ -32,7 +32,7 @@ use Rattle.snmpsec_gate_config.specs.declared.table.GateTable.TheVariants as tab
 use Rattle.snmpsec_gate_config.specs.Rows.{IsDevice, IsReceiver}
 use Rattle.snmpsec_gate_config.specs.Receivers.{IsFirstUnfit}
 use Rattle.snmpsec_gate_config.specs.Documents.{IsTop, IsWritten, HasGate, HasDevices, HasReceivers, devices_of, receivers_of}
-use Rattle.snmpsec_gate_config.specs.Refusals.{Says, Refuses, RefusesDocument, TellsNoGate, TellsNoDevices, TellsNoReceivers, TellsNoRows, TellsNoTable, device_refusal, receiver_refusal, user_fault, access_fault}
+use Rattle.snmpsec_gate_config.specs.Refusals.{Says, Refuses, RefusesDocument, TellsNoDevices, TellsNoReceivers, TellsNoRows, TellsNoTable, device_refusal, receiver_refusal, user_fault, access_fault}
 
 -- ---- documents
 
@@ -43,20 +43,6 @@ no_document text (config_faults.Top key) h = absurd h
 no_document text (config_faults.BadKey of position fault) h = absurd h
 no_document text (config_faults.Row of position wrong) h = absurd h
 no_document text config_faults.OutOfMemory h = tt
-
-pub no_gate : (d : Members) (f : GateFault) → IsTop d → TellsNoGate d f → RefusesDocument d f
-no_gate d (faults.Top key) top h = absurd h
-no_gate d (faults.Gate fault) top h = (record { top = top; no_gate = h.1 }, h.0)
-no_gate d (faults.Device position fault) top h = absurd h
-no_gate d (faults.Duplicate position) top h = absurd h
-no_gate d (faults.Receiver position fault) top h = absurd h
-no_gate d (faults.Unfit position fault) top h = absurd h
-no_gate d (faults.Config (config_faults.Nested line column)) top h = absurd h
-no_gate d (faults.Config (config_faults.Toml fault)) top h = absurd h
-no_gate d (faults.Config (config_faults.Top key)) top h = absurd h
-no_gate d (faults.Config (config_faults.BadKey of position fault)) top h = absurd h
-no_gate d (faults.Config (config_faults.Row of position wrong)) top h = absurd h
-no_gate d (faults.Config config_faults.OutOfMemory) top h = tt
 
 pub no_devices : (d : Members) (f : GateFault) → IsTop d → HasGate d → TellsNoDevices d f → RefusesDocument d f
 no_devices d (faults.Top key) top gate h = absurd h
