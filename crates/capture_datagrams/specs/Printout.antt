@@ -13,7 +13,6 @@ use Rattle.vacm_core.specs.Tables.{Tables}
 use Rattle.capture_files.specs.Datagrams.{PrintsLine, Streams}
 use Rattle.snmpsec_config.specs.declared.fault.ConfigFault.{ConfigFault}
 use Rattle.snmpsec_config.specs.Refusals.{Loads, RefusesText, refusal_line}
-use Rattle.snmpsec_config.specs.Told.{IsWhy}
 use Rattle.snmpsec_output.specs.Open.{OpensBy}
 use Rattle.snmpsec_output.specs.Questions.{Printed}
 use Rattle.snmpsec_output.specs.Show.{ShowsDatagram}
@@ -62,7 +61,6 @@ LoadsUsers config users = (tables : Tables) × Loads config users tables
 pub record TellsConfig (fault : ConfigFault) (line note : List ℕ) : Type 0 where
   pub text : line ≡ refusal_line fault ++ codes "\n"
   pub why : List ℕ
-  pub is_why : IsWhy fault why
   pub beside : note ≡ codes "snmpsec: " ++ (why ++ codes "\n")
 
 -- the configuration is refused, by these lines

@@ -100,9 +100,8 @@ there text place value h = past text place value h (cases_lt place (length text)
 
 -- two octets of a text
 cut_two : (text : List ℕ) → 1 < length text → text ≡ slice_index text 0 ∷ slice_index text 1 ∷ drop 2 text
-cut_two [] h = absurd (omega (arith, h))
-cut_two (c ∷ []) h = absurd (omega (arith, h))
 cut_two (c ∷ d ∷ t) h = refl
+cut_two _ h = absurd (omega (arith, h))
 
 joined : (a b : Option ℕ) (octet : ℕ) → joined_digits a b ≡ Some octet → (high : ℕ) × (low : ℕ) × (a ≡ Some high) × (b ≡ Some low) × (octet ≡ high * 16 + low)
 joined None b octet h = absurd (none_some octet h)

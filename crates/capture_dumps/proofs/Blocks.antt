@@ -39,55 +39,34 @@ go_more : (base : Base) (before : List ℕ) (lines : List Kind) (octets digits s
     → GoOn base before (lines ++ more digits said ∷ []) (octets ++ said)
 go_more base before [] octets digits said h next = (subst (λ o. IsNext base o digits) h next, ap (λ o. o ++ said) h)
 go_more base before (more d s ∷ lines) octets digits said h next = (h.0, go_more base (before ++ s) lines octets digits said h.1 next)
-go_more base before (other ∷ lines) octets digits said h next = absurd h
-go_more base before (begin s ∷ lines) octets digits said h next = absurd h
-go_more base before (words ∷ lines) octets digits said h next = absurd h
-go_more base before (bad ∷ lines) octets digits said h next = absurd h
+go_more base before _ octets digits said h next = absurd h
 
 pub dump_more : (base : Base) (lines : List Kind) (octets digits said : List ℕ) → IsDumpIn base lines octets → IsNext base octets digits
     → IsDumpIn base (lines ++ more digits said ∷ []) (octets ++ said)
-dump_more base [] octets digits said h next = absurd h
 dump_more base (begin first ∷ lines) octets digits said h next = go_more base first lines octets digits said h next
-dump_more base (other ∷ lines) octets digits said h next = absurd h
-dump_more base (more d s ∷ lines) octets digits said h next = absurd h
-dump_more base (words ∷ lines) octets digits said h next = absurd h
-dump_more base (bad ∷ lines) octets digits said h next = absurd h
+dump_more base _ octets digits said h next = absurd h
 
 go_less : (base : Base) (before : List ℕ) (lines : List Kind) (all digits said : List ℕ) → GoOn base before (lines ++ more digits said ∷ []) all
     → (octets : List ℕ) × GoOn base before lines octets × IsNext base octets digits
 go_less base before [] all digits said h = (before, refl, h.0)
 go_less base before (more d s ∷ lines) all digits said h = let l = go_less base (before ++ s) lines all digits said h.1 in (l.0, (h.0, l.1), l.2)
-go_less base before (other ∷ lines) all digits said h = absurd h
-go_less base before (begin s ∷ lines) all digits said h = absurd h
-go_less base before (words ∷ lines) all digits said h = absurd h
-go_less base before (bad ∷ lines) all digits said h = absurd h
+go_less base before _ all digits said h = absurd h
 
 -- without its last line it is a dump
 dump_less : (base : Base) (lines : List Kind) (all digits said : List ℕ) → IsDumpIn base (lines ++ more digits said ∷ []) all
     → (octets : List ℕ) × IsDumpIn base lines octets × IsNext base octets digits
-dump_less base [] all digits said h = absurd h
 dump_less base (begin first ∷ lines) all digits said h = go_less base first lines all digits said h
-dump_less base (other ∷ lines) all digits said h = absurd h
-dump_less base (more d s ∷ lines) all digits said h = absurd h
-dump_less base (words ∷ lines) all digits said h = absurd h
-dump_less base (bad ∷ lines) all digits said h = absurd h
+dump_less base _ all digits said h = absurd h
 
 go_one : (base other_base : Base) (before : List ℕ) (lines : List Kind) (a b : List ℕ) → GoOn base before lines a → GoOn other_base before lines b → a ≡ b
 go_one base other_base before [] a b h k = h ∙ sym k
 go_one base other_base before (more d s ∷ lines) a b h k = go_one base other_base (before ++ s) lines a b h.1 k.1
-go_one base other_base before (other ∷ lines) a b h k = absurd h
-go_one base other_base before (begin s ∷ lines) a b h k = absurd h
-go_one base other_base before (words ∷ lines) a b h k = absurd h
-go_one base other_base before (bad ∷ lines) a b h k = absurd h
+go_one base other_base before _ a b h k = absurd h
 
 -- a dump has one list of octets, whatever the bases
 pub dump_one : (base other_base : Base) (lines : List Kind) (a b : List ℕ) → IsDumpIn base lines a → IsDumpIn other_base lines b → a ≡ b
-dump_one base other_base [] a b h k = absurd h
 dump_one base other_base (begin first ∷ lines) a b h k = go_one base other_base first lines a b h k
-dump_one base other_base (other ∷ lines) a b h k = absurd h
-dump_one base other_base (more d s ∷ lines) a b h k = absurd h
-dump_one base other_base (words ∷ lines) a b h k = absurd h
-dump_one base other_base (bad ∷ lines) a b h k = absurd h
+dump_one base other_base _ a b h k = absurd h
 
 -- ---- in which bases
 
@@ -102,8 +81,7 @@ not_both false b e is = absurd (false≢true is)
 -- of the bases those stay in which the digits write the number
 writing_is : (bases : Bases) (digits : List ℕ) (number : ℕ) (base : Base) → has (writing bases digits number) base ≡ (has bases base && is_number (base_number base) digits number)
 writing_is bases digits number Hex = refl
-writing_is bases digits number Decimal = refl
-writing_is bases digits number Octal = refl
+writing_is bases digits number _ = refl
 
 some_of : (a b c : Bool) → (a || b || c) ≡ true → (f : Base → Bool) → f Hex ≡ a → f Decimal ≡ b → f Octal ≡ c → (base : Base) × (f base ≡ true)
 some_of true b c e f x y z = (Hex, x)
@@ -125,8 +103,7 @@ none_is bases e Octal = (none_of bases.hex bases.decimal bases.octal e).2
 
 has_all : (base : Base) → has all_bases base ≡ true
 has_all Hex = refl
-has_all Decimal = refl
-has_all Octal = refl
+has_all _ = refl
 
 pub open_begins : (octets : List ℕ) → IsOpenIn all_bases octets (begin octets ∷ [])
 open_begins octets = record {
@@ -256,18 +233,6 @@ module _ (before : Reading) where
           is = omega (arith, is, long, within, both);
         }
 
-    pub stops_begun : (digits said : List ℕ) → before.going ≡ None → said ≢ [] → number ≡ place + 1 → StopsAfter place before (more digits said) (faults.NotBegun number)
-    stops_begun digits said was some is lines rest long r =
-        let nothing = subst (λ o. IsOpen o r.block) was r.is_open in record {
-          count = r.count;
-          dumps = ended before;
-          rest = more digits said ∷ rest;
-          at = 1;
-          blocks = subst (λ (b : List Kind). AreBlocks r.count lines (ended before) (b ++ (more digits said ∷ rest))) nothing r.blocks;
-          stops = (digits, said, rest, refl, some, refl);
-          is = omega (arith, is, long);
-        }
-
     pub stops_count : (digits said : List ℕ) (dump : Dump) → before.going ≡ Some dump → some_base (writing dump.bases digits (length dump.octets.items)) ≡ false → number ≡ place
         → StopsAfter place before (more digits said) (faults.OtherCount number)
     stops_count digits said dump was none is lines rest long r =
@@ -295,14 +260,6 @@ module _ (before : Reading) where
 
 -- ---- all lines
 
-pub not_begun : (lines : List Kind) (reading : Reading) → ended reading ≡ [] → reading.going ≡ None → ReadUp lines lines reading
-not_begun lines reading none closed_yet = record {
-  count = 0;
-  block = [];
-  blocks = (refl, none);
-  is_open = subst (λ o. IsOpen o []) (sym closed_yet) refl;
-}
-
 -- the lines that are left, at a line
 pub left_at : (lines : List Line) (place : ℕ) (line : Line) → place < length lines → line ≡ get_or lines place line
     → drop place (map kind lines) ≡ kind line ∷ drop (place + 1) (map kind lines)
@@ -310,7 +267,3 @@ left_at lines place line within at =
     let inside : place < length (map kind lines) = omega (arith, within, length-map lines kind) in
     drop_more (map kind lines) place (kind line) inside
     ∙ ap (λ (k : Kind). k ∷ drop (place + 1) (map kind lines)) (get_or-map kind lines place line (kind line) within ∙ ap kind (sym at))
-
-pub none_from : (o : Option Dump) → ((dump : Dump) → o ≡ Some dump → ⊥) → o ≡ None
-none_from None not = refl
-none_from (Some dump) not = absurd (not dump refl)

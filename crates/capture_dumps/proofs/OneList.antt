@@ -52,9 +52,7 @@ same_on b c p q x y (more d t ∷ xs) (begin u ∷ ys) r s e g h m n = absurd h
 same_on b c p q x y (more d t ∷ xs) (words ∷ ys) r s e g h m n = absurd h
 same_on b c p q x y (more d t ∷ xs) (bad ∷ ys) r s e g h m n = absurd h
 same_on b c p q x y (other ∷ xs) ys r s e g h m n = absurd g
-same_on b c p q x y (begin t ∷ xs) ys r s e g h m n = absurd g
-same_on b c p q x y (words ∷ xs) ys r s e g h m n = absurd g
-same_on b c p q x y (bad ∷ xs) ys r s e g h m n = absurd g
+same_on b c p q x y _ ys r s e g h m n = absurd g
 
 -- a dump goes on beyond another, behind which no dump may end: with the next line that is one too
 past : (b c : Base) (p q x y : List ℕ) (l : Kind) (xs ys r s : List Kind) → xs ++ (l ∷ r) ≡ ys ++ s → GoOn b p xs x → GoOn c q ys y → (MayEndBefore (l ∷ r) → ⊥) → MayEndBefore s
@@ -77,9 +75,7 @@ past b c p q x y l (more d t ∷ xs) (begin u ∷ ys) r s e g h m n = absurd h
 past b c p q x y l (more d t ∷ xs) (words ∷ ys) r s e g h m n = absurd h
 past b c p q x y l (more d t ∷ xs) (bad ∷ ys) r s e g h m n = absurd h
 past b c p q x y l (other ∷ xs) ys r s e g h m n = absurd g
-past b c p q x y l (begin t ∷ xs) ys r s e g h m n = absurd g
-past b c p q x y l (words ∷ xs) ys r s e g h m n = absurd g
-past b c p q x y l (bad ∷ xs) ys r s e g h m n = absurd g
+past b c p q x y l _ ys r s e g h m n = absurd g
 
 -- a dump begins with the line of the offset 0
 pub record Begins (base : Base) (lines : List Kind) (octets : List ℕ) : Type 0 where
@@ -89,12 +85,8 @@ pub record Begins (base : Base) (lines : List Kind) (octets : List ℕ) : Type 0
   pub on : GoOn base first behind octets
 
 begins : (base : Base) (lines : List Kind) (octets : List ℕ) → IsDumpIn base lines octets → Begins base lines octets
-begins base [] octets h = absurd h
 begins base (begin first ∷ lines) octets h = record { first = first; behind = lines; are = refl; on = h }
-begins base (other ∷ lines) octets h = absurd h
-begins base (more d t ∷ lines) octets h = absurd h
-begins base (words ∷ lines) octets h = absurd h
-begins base (bad ∷ lines) octets h = absurd h
+begins base _ octets h = absurd h
 
 same_dump : (b c : Base) (xs ys r s : List Kind) (x y : List ℕ) → xs ++ r ≡ ys ++ s → IsDumpIn b xs x → IsDumpIn c ys y → MayEndBefore r → MayEndBefore s → (xs ≡ ys) × (r ≡ s)
 same_dump b c xs ys r s x y e g h m n =
@@ -234,20 +226,12 @@ wrong_next n lines block later dumps line octets h e (base, dump) ends longer =
 
 -- other words don't go on with a dump
 go_words : (base : Base) (before : List ℕ) (xs : List Kind) (all : List ℕ) → GoOn base before (xs ++ words ∷ []) all → ⊥
-go_words base before [] all h = h
 go_words base before (more d t ∷ xs) all h = go_words base (before ++ t) xs all h.1
-go_words base before (other ∷ xs) all h = h
-go_words base before (begin t ∷ xs) all h = h
-go_words base before (words ∷ xs) all h = h
-go_words base before (bad ∷ xs) all h = h
+go_words base before _ all h = h
 
 dump_words : (xs : List Kind) (all : List ℕ) → IsDump (xs ++ words ∷ []) all → ⊥
-dump_words [] all (base, h) = h
 dump_words (begin first ∷ xs) all (base, h) = go_words base first xs all h
-dump_words (other ∷ xs) all (base, h) = h
-dump_words (more d t ∷ xs) all (base, h) = h
-dump_words (words ∷ xs) all (base, h) = h
-dump_words (bad ∷ xs) all (base, h) = h
+dump_words _ all (base, h) = h
 
 no_unreadable : (n : ℕ) (rest : List Kind) (dumps : List (List ℕ)) (at : ℕ) → AreBlocks n rest dumps [] → IsUnreadable rest at → ⊥
 no_unreadable n rest dumps at h (inl (later, e, one)) = wrong_first n rest later dumps bad h e (λ p. p) (λ p. p)

@@ -68,12 +68,11 @@ behind_is rest tail octet None e = absurd (none-some (octet, rest) e)
 behind_is rest tail octet (Some x) e = ap (λ (r : Read). r.1) (same_Some _ _ e)
 
 first_shorter : (text rest : List ℕ) (octet : ℕ) → first_pair text ≡ Some (octet, rest) → length rest < length text
-first_shorter [] rest octet e = absurd (none-some (octet, rest) e)
-first_shorter (high ∷ []) rest octet e = absurd (none-some (octet, rest) e)
 first_shorter (high ∷ low ∷ tail) rest octet e =
     let same = ap length (behind_is rest tail octet (joined_digits (hex_digit_value high) (hex_digit_value low)) e) in
     let two : length (high ∷ low ∷ tail) ≡ suc (suc (length tail)) = refl in
     omega (arith, same, two)
+first_shorter _ rest octet e = absurd (none-some (octet, rest) e)
 
 pub pair_shorter : (text rest : List ℕ) (octet : ℕ) → next_pair text ≡ Some (octet, rest) → length rest < length text
 pair_shorter text rest octet e =

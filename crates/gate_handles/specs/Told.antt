@@ -21,7 +21,6 @@ use Rattle.snmp_gate.specs.RequestTags.{IsMessageOf, IsNumberOfNone}
 use Rattle.snmp_gate.specs.declared.waiting_message.WaitingMessage.{WaitingMessage}
 use Rattle.snmpsec_gate_config.specs.Oddities.{TellsOddity, oddity_words}
 use Rattle.snmpsec_gate_config.specs.Refusals.{RefusesText, SaysSound, refusal_line}
-use Rattle.snmpsec_gate_config.specs.Told.{IsWhy}
 use Rattle.snmpsec_gate_config.specs.Values.{kind_word}
 use Rattle.snmpsec_gate_config.specs.declared.fault.GateFault.{GateFault}
 use Rattle.snmpsec_gate_config.specs.declared.oddity.DeviceOddity.{DeviceOddity}
@@ -148,8 +147,7 @@ CountsOf held n (Err _) = ⊥
 
 -- two lines: the refusal, and what is wrong and what is expected
 abbrev pub IsTold : GateFault → List ℕ → Type 0
-IsTold fault text = (why : List ℕ) × IsWhy fault why
-    × (text ≡ refusal_line fault ++ (codes "\n" ++ (why ++ codes "\n")))
+IsTold fault text = (why : List ℕ) × (text ≡ refusal_line fault ++ (codes "\n" ++ (why ++ codes "\n")))
 
 -- the text is refused for this fault, and this is reported of it
 abbrev pub RefusesSo : List ℕ → List ℕ → Type 0

@@ -11,7 +11,7 @@ use Rattle.snmp_walk.specs.BulkSteps.{ColumnReads, IsBegun, IsSettled}
 use Rattle.snmp_walk.specs.Column.{Asks}
 use Rattle.snmp_walk.specs.Turns.{ReadsTurns}
 use Rattle.snmp_walk.specs.declared.column.Progress.{Progress}
-use Rattle.snmp_walk.specs.declared.column.Progress.TheVariants.{Wanting, Asked, Given, Hidden, Ended}
+use Rattle.snmp_walk.specs.declared.column.Progress.TheVariants.{Asked}
 use Rattle.snmp_walk.specs.declared.bulk_column.BulkColumn.{BulkColumn}
 use Rattle.gateway_laws.specs.Bulk.{AreNamesAsked, IsTrueInTurn}
 use Rattle.gateway_laws.specs.BulkTracks.{AllBulkTrack, BulkColumnTracks}
@@ -24,11 +24,8 @@ name_in (Asked ask) = ask.name
 name_in _ = []
 
 is_name_in : (p : Progress) (asked : List ℕ) → Asks p asked → name_in p ≡ asked
-is_name_in (Wanting from) asked asks = absurd asks
 is_name_in (Asked ask) asked asks = asks
-is_name_in (Given g) asked asks = absurd asks
-is_name_in Hidden asked asks = absurd asks
-is_name_in Ended asked asks = absurd asks
+is_name_in _ asked asks = absurd asks
 
 abbrev pub names_in : List BulkColumn → List (List ℕ)
 names_in [] = []

@@ -28,10 +28,9 @@ goes_walking Seen (Wanting from) (Asked ask) goes walking = tt
 goes_walking Seen (Wanting from) (Given g) goes walking = absurd goes
 goes_walking Seen (Wanting from) Hidden goes walking = absurd goes
 goes_walking Seen (Wanting from) Ended goes walking = tt
-goes_walking Seen (Asked ask) new goes walking = subst IsWalking (sym goes) walking
 goes_walking Seen (Given g) new goes walking = absurd walking
 goes_walking Seen Hidden new goes walking = absurd walking
-goes_walking Seen Ended new goes walking = subst IsWalking (sym goes) walking
+goes_walking Seen _ new goes walking = subst IsWalking (sym goes) walking
 
 module _ (device : Known) (Seen : List ℕ → Type 0) where
   pub nexts_more : (first : List ℕ) (vs : List Variable) (v : Variable) → AreNexts device Seen first vs → IsNext device Seen (last_name first vs) v → AreNexts device Seen first (vs ++ v ∷ [])
@@ -61,11 +60,8 @@ module _ (device : Known) (Seen : List ℕ → Type 0) where
       (subst (λ (gs : List GivenVariable). TracksBulk device Seen old.first (map given_says gs) p) (sym given) t)
 
   waiting_tracks : (first : List ℕ) (given : List Variable) (old new : Progress) → Waits old new → TracksBulk device Seen first given old → TracksBulk device Seen first given new
-  waiting_tracks first given (Wanting from) new w t = subst (TracksBulk device Seen first given) (sym w) t
   waiting_tracks first given (Asked ask) new w t = subst (TracksBulk device Seen first given) (sym w) (record { nexts = t.nexts; walking = tt; walk = t.walk.0 })
-  waiting_tracks first given (Given g) new w t = subst (TracksBulk device Seen first given) (sym w) t
-  waiting_tracks first given Hidden new w t = subst (TracksBulk device Seen first given) (sym w) t
-  waiting_tracks first given Ended new w t = subst (TracksBulk device Seen first given) (sym w) t
+  waiting_tracks first given _ new w t = subst (TracksBulk device Seen first given) (sym w) t
 
   pub new_tracks : (c : BulkColumn) → IsNew c → BulkColumnTracks device Seen c
   new_tracks c is =
@@ -144,13 +140,12 @@ module _ (device : Known) (Seen : List ℕ → Type 0) where
       | inl next ↦ value_read first name given more v after t.nexts (subst (HasNoneUpto device Seen (last_name first given)) (sym turn) t.walk.1) next takes
       | inr none ↦ absurd (not_end none.1.syntax_is)
     ]
-    taken first name given more v (Given g) after t turn fits answer takes = absurd turn
-    taken first name given more v Hidden after t turn fits answer takes = absurd turn
     taken first name given more v Ended after t turn fits answer (inl (end, are, is_after)) = (
       subst (TracksBulk device Seen first more) (sym is_after) (subst (λ (vs : List Variable). TracksBulk device Seen first vs Ended) (sym are) t),
       subst (IsTurnFrom v.name) (sym is_after) tt,
     )
     taken first name given more v Ended after t turn fits answer (inr (not_end, takes)) = absurd (not_end fits)
+    taken first name given more v _ after t turn fits answer takes = absurd turn
 
     -- the answer has this variable for the column
     pub one_read : (old new : BulkColumn) (name : List ℕ) (v : Variable) → ColumnReads Seen old v new → IsNextAnswer device AllSeen name v → TracksReading old name → TracksReading new v.name

@@ -46,17 +46,15 @@ then_same a b c f s = record { non_repeaters = s.non_repeaters ∙ f.non_repeate
 
 pub next_same : (Seen : List ℕ → Type 0) (old new : BulkDialogue) (becomes : BulkNext) → IsBulkNext Seen old new becomes → SameRequest old new
 next_same Seen old new (next.Asks ask) is = limits_same old new is.0
-next_same Seen old new next.Ends is = limits_same old new is.0
-next_same Seen old new (next.RoundsUsedUp number) is = limits_same old new is.0
+next_same Seen old new _ is = limits_same old new is.0
 
 pub answered_same : (Seen : List ℕ → Type 0) (answer : Pdu) (old new : BulkDialogue) (becomes : BulkAnswered) → IsBulkAnswered Seen answer old new becomes → SameRequest old new
-answered_same Seen answer old new answered.Taken is = limits_same old new is.3
 answered_same Seen answer old new (answered.Unfit fault) is = limits_same old new is.3.limits
 answered_same Seen answer old new answered.Less is = record { non_repeaters = is.1.first; max_repetitions = is.1.most }
 answered_same Seen answer old new answered.Front is = itself old new is.1.2
 answered_same Seen answer old new answered.TooBig is = itself old new is.1.2
-answered_same Seen answer old new (answered.Ended number) is = limits_same old new is.3
 answered_same Seen answer old new (answered.Failed column) is = itself old new is.4
+answered_same Seen answer old new _ is = limits_same old new is.3
 
 -- the names that the columns are for
 firsts : (cs : List BulkColumn) → map (λ (c : BulkColumn). c.first) cs ≡ map (λ (request : List ℕ × ℕ). request.0) (map bulk_request cs)
@@ -113,8 +111,7 @@ module _ (device : Known) (Seen : List ℕ → Type 0) where
         let more = step.1 in
         let chosen = more.chosen in
         all_chosen old.non_repeaters chosen.fewest 0 (max old.at_once 1) more.columns new.columns.items chosen.chooses (all_go_on old.columns.items more.columns more.goes_on tracks)
-    goes_tracks old new next.Ends step tracks = all_go_on old.columns.items new.columns.items step.1 tracks
-    goes_tracks old new (next.RoundsUsedUp number) step tracks = all_go_on old.columns.items new.columns.items step.1 tracks
+    goes_tracks old new _ step tracks = all_go_on old.columns.items new.columns.items step.1 tracks
 
     pub came_tracks : (old new : BulkDialogue) (answer : Pdu) (becomes : BulkAnswered) → IsTrueBulkAnswer device old answer → IsBulkAnswered Seen answer old new becomes
         → AllBulkTrack device Seen old.columns.items → AllBulkTrack device Seen new.columns.items
@@ -122,10 +119,9 @@ module _ (device : Known) (Seen : List ℕ → Type 0) where
         read_tracks device Seen is (is_next old.ask) old.columns.items (turns_of old) (variables_of answer.list.now) new.columns.items step.2 (truly.bindings step.0) tracks
     came_tracks old new answer (answered.Unfit fault) truly step tracks = all_say old.columns.items new.columns.items step.3.columns tracks
     came_tracks old new answer answered.Less truly step tracks = all_wait old.columns.items new.columns.items step.1.waits tracks
-    came_tracks old new answer answered.Front truly step tracks = subst (λ (d : BulkDialogue). AllBulkTrack device Seen d.columns.items) (sym step.1.2) tracks
-    came_tracks old new answer answered.TooBig truly step tracks = subst (λ (d : BulkDialogue). AllBulkTrack device Seen d.columns.items) (sym step.1.2) tracks
     came_tracks old new answer (answered.Ended number) truly step tracks = absurd (truly.not_version_1 step.0)
     came_tracks old new answer (answered.Failed column) truly step tracks = subst (λ (d : BulkDialogue). AllBulkTrack device Seen d.columns.items) (sym step.4) tracks
+    came_tracks old new answer _ truly step tracks = subst (λ (d : BulkDialogue). AllBulkTrack device Seen d.columns.items) (sym step.1.2) tracks
 
     run_tracks : (told : List Variable) (steps : List BulkStep) (first last : BulkDialogue) → IsTrueBulkRun device Seen told first steps last → AllBulkTrack device Seen first.columns.items
         → AllBulkTrack device Seen last.columns.items

@@ -12,7 +12,7 @@ use Rattle.snmp_walk.specs.BulkDialogue.{HasGathered, HasRepetition, IsEnough, N
 use Rattle.snmp_walk.specs.Column.{IsOpen}
 use Rattle.snmp_walk.specs.Front.{AreKnown, IsCutRow, IsFront, IsRowAt}
 use Rattle.snmp_walk.specs.declared.column.Progress.{Progress}
-use Rattle.snmp_walk.specs.declared.column.Progress.TheVariants.{Wanting, Asked, Given, Hidden, Ended}
+use Rattle.snmp_walk.specs.declared.column.Progress.TheVariants.{Given, Hidden, Ended}
 use Rattle.snmp_walk.specs.declared.bulk_column.BulkColumn.{BulkColumn}
 use Rattle.snmp_walk.specs.declared.bulk_dialogue.BulkDialogue.{BulkDialogue}
 use Rattle.gateway_laws.specs.BulkTracks.{AllBulkTrack, BulkColumnTracks, IsWalking}
@@ -23,11 +23,10 @@ abbrev WantsSome : BulkColumn → Type 0
 WantsSome c = 0 < c.most
 
 is_open : (p : Progress) → IsWalking p → ¬ (p ≡ Ended) → IsOpen p
-is_open (Wanting from) walking not_ended = tt
-is_open (Asked ask) walking not_ended = tt
 is_open (Given g) walking not_ended = absurd walking
 is_open Hidden walking not_ended = absurd walking
 is_open Ended walking not_ended = absurd (not_ended refl)
+is_open _ walking not_ended = tt
 
 known : (device : Known) (Seen : List ℕ → Type 0) (c : BulkColumn) → BulkColumnTracks device Seen c → WantsSome c → ¬ Wants c → ¬ IsUnknownAt c 0
 known device Seen c tracks some not_wants unknown = not_wants (record {

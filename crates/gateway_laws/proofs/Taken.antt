@@ -14,7 +14,7 @@ use Rattle.snmp_walk.specs.Dialogue.{Answers, AnswersAll, IsFault, asks_of}
 use Rattle.snmp_walk.specs.declared.answer.AnswerFault.{AnswerFault}
 use Rattle.snmp_walk.specs.declared.answer.AnswerFault.TheVariants.{AtBinding, TooFew, TooMany}
 use Rattle.snmp_walk.specs.declared.misfit.Misfit.{Misfit}
-use Rattle.snmp_walk.specs.declared.misfit.Misfit.TheVariants.{AfterEnd, NotAfter, NotValue, OtherName}
+use Rattle.snmp_walk.specs.declared.misfit.Misfit.TheVariants.{NotAfter, NotValue, OtherName}
 use Rattle.snmp_walk.specs.declared.operation.ReadOperation.{ReadOperation}
 use Rattle.snmp_walk.specs.declared.operation.ReadOperation.TheVariants.{Get, GetNext}
 use Rattle.snmp_walk.specs.declared.dialogue.Answered.{Answered}
@@ -55,10 +55,8 @@ module _ (device : Known) (is : IsDevice device) where
 
   not_both : (o : ReadOperation) (name : List ℕ) (v : Variable) (misfit : Misfit) → FitsPlace o name v → Misfits o name v misfit → ⊥
   not_both Get name v OtherName fit mis = mis fit.0
-  not_both Get name v NotAfter fit mis = mis
   not_both Get name v NotValue fit mis = mis.1 fit.1
-  not_both Get name v AfterEnd fit mis = mis
-  not_both GetNext name v OtherName fit mis = mis
+  not_both Get name v _ fit mis = mis
   not_both GetNext name v NotAfter fit mis = elim fit [
     | inl end ↦ mis.0 end
     | inr later ↦ mis.1 later.0
@@ -67,7 +65,7 @@ module _ (device : Known) (is : IsDevice device) where
     | inl end ↦ mis.0 end
     | inr later ↦ mis.2 later.1
   ]
-  not_both GetNext name v AfterEnd fit mis = mis
+  not_both GetNext name v _ fit mis = mis
 
   -- behind as many, the next one answers what is asked there
   answers_there : (xs : List (ReadOperation × List ℕ)) (x : ReadOperation × List ℕ) (ys : List (ReadOperation × List ℕ)) (us : List Variable) (u : Variable) (ws : List Variable)
@@ -88,5 +86,4 @@ module _ (device : Known) (is : IsDevice device) where
   is_taken Seen old new answer answered.Taken truly none step = refl
   is_taken Seen old new answer (answered.Unfit fault) truly none step =
       absurd (no_fault (asks_of old.columns.items) (variables_of answer.list.now) fault (all_fit (asks_of old.columns.items) (variables_of answer.list.now) (truly.answered none)) step.1)
-  is_taken Seen old new answer (answered.Ended number) truly none step = absurd (step.0 none)
-  is_taken Seen old new answer (answered.Failed failure) truly none step = absurd (step.0 none)
+  is_taken Seen old new answer _ truly none step = absurd (step.0 none)

@@ -27,10 +27,7 @@ module _ (device : Known) (Seen : List ℕ → Type 0) where
   begun_tracks Get first Hidden b = b
   begun_tracks Get first Ended b = absurd b
   begun_tracks GetNext first (Wanting from) b = (subst (λ (name : List ℕ). IsUpto first name) (sym b) (upto_itself first), λ v comes. subst (λ (name : List ℕ). IsBefore name v.name) (sym b) comes.behind)
-  begun_tracks GetNext first (Asked ask) b = absurd b
-  begun_tracks GetNext first (Given g) b = absurd b
-  begun_tracks GetNext first Hidden b = absurd b
-  begun_tracks GetNext first Ended b = absurd b
+  begun_tracks GetNext first _ b = absurd b
 
   -- what is got of a device that hides nothing, for a name that is seen
   restricted : (name : List ℕ) (v : Variable) → Seen name → IsGot device AllSeen name v → IsGot device Seen name v
@@ -53,25 +50,19 @@ module _ (device : Known) (Seen : List ℕ → Type 0) where
 
   -- what the Response holds of a column
   pub shown_answers : (o : ReadOperation) (first : List ℕ) (p : Progress) (v : Variable) → Tracks device Seen o first p → IsShownBy first p v → IsAnswered device Seen o first v
-  shown_answers Get first (Wanting from) v t shown = absurd shown
-  shown_answers Get first (Asked ask) v t shown = absurd shown
   shown_answers Get first (Given g) v t shown = subst (IsGot device Seen first) (sym shown) t
   shown_answers Get first Hidden v t shown = inr (inr (record { none = λ w b. t b.seen; no_object = λ seen. absurd (t seen) }, shown))
   shown_answers Get first Ended v t shown = absurd t
-  shown_answers GetNext first (Wanting from) v t shown = absurd shown
-  shown_answers GetNext first (Asked ask) v t shown = absurd shown
+  shown_answers Get first _ v t shown = absurd shown
   shown_answers GetNext first (Given g) v t shown = inl (subst (IsNext device Seen first) (sym shown) t)
   shown_answers GetNext first Hidden v t shown = absurd t
   shown_answers GetNext first Ended v t shown = inr (t, shown)
+  shown_answers GetNext first _ v t shown = absurd shown
 
   module _ (is : IsDevice device) where
     went_on : (o : ReadOperation) (first from : List ℕ) (p : Progress) → GoesOnFrom Seen o from p → Tracks device Seen o first (Wanting from) → Tracks device Seen o first p
-    went_on Get first from (Wanting name) g t = absurd g
     went_on Get first from (Asked ask) g t = (g.1 ∙ t.0, t.1)
-    went_on Get first from (Given given) g t = absurd g
-    went_on Get first from Hidden g t = absurd g
-    went_on Get first from Ended g t = absurd g
-    went_on GetNext first from (Wanting name) g t = absurd g
+    went_on Get first from _ g t = absurd g
     went_on GetNext first from (Asked ask) g t =
         let passed = passes Seen from ask.name g.1 in (
           subst (HasNoneUpto device Seen first) (sym g.0) t,
@@ -83,16 +74,12 @@ module _ (device : Known) (Seen : List ℕ → Type 0) where
             ],
           ),
         )
-    went_on GetNext first from (Given given) g t = absurd g
-    went_on GetNext first from Hidden g t = absurd g
     went_on GetNext first from Ended g t = λ v comes. g v.name (is.arcs v comes.there, is.spelled v comes.there, t.1 v comes, comes.seen)
+    went_on GetNext first from _ g t = absurd g
 
     pub goes_on_tracks : (o : ReadOperation) (first : List ℕ) (old new : Progress) → GoesOn Seen o old new → Tracks device Seen o first old → Tracks device Seen o first new
     goes_on_tracks o first (Wanting from) new g t = went_on o first from new g t
-    goes_on_tracks o first (Asked ask) new g t = subst (Tracks device Seen o first) (sym g) t
-    goes_on_tracks o first (Given given) new g t = subst (Tracks device Seen o first) (sym g) t
-    goes_on_tracks o first Hidden new g t = subst (Tracks device Seen o first) (sym g) t
-    goes_on_tracks o first Ended new g t = subst (Tracks device Seen o first) (sym g) t
+    goes_on_tracks o first _ new g t = subst (Tracks device Seen o first) (sym g) t
 
     -- no variable that is seen after the first name is before the next one that the device has after the name asked
     least_seen : (first asked : List ℕ) (v : Variable) → NoneUpto device Seen first asked → IsNext device AllSeen asked v → (w : Variable) → ComesNext device Seen first w → IsUpto v.name w.name
@@ -122,32 +109,25 @@ module _ (device : Known) (Seen : List ℕ → Type 0) where
 
     took : (o : ReadOperation) (first from asked : List ℕ) (v : Variable) (p : Progress) → IsAnswered device AllSeen o asked v → Takes Seen o v p
         → Tracks device Seen o first (Asked (record { from = from; name = asked })) → Tracks device Seen o first p
-    took Get first from asked v (Wanting name) answer t old = absurd t
-    took Get first from asked v (Asked ask) answer t old = absurd t
     took Get first from asked v (Given g) answer t old = subst (IsGot device Seen first) (sym t) (restricted first v old.1 (subst (λ (name : List ℕ). IsGot device AllSeen name v) old.0 answer))
-    took Get first from asked v Hidden answer t old = absurd t
-    took Get first from asked v Ended answer t old = absurd t
+    took Get first from asked v _ answer t old = absurd t
     took GetNext first from asked v (Wanting name) answer t old = elim answer [
       | inl next ↦ subst (HasNoneUpto device Seen first) (sym t.2) (hidden_goes_on first asked v old.1 next t.1)
       | inr none ↦ absurd (t.0 none.1.syntax_is)
     ]
-    took GetNext first from asked v (Asked ask) answer t old = absurd t
     took GetNext first from asked v (Given g) answer t old = elim answer [
       | inl next ↦ subst (IsNext device Seen first) (sym t.2) (seen_is_next first asked v old.1 next t.1)
       | inr none ↦ absurd (t.0 none.1.syntax_is)
     ]
-    took GetNext first from asked v Hidden answer t old = absurd t
     took GetNext first from asked v Ended answer t old = elim answer [
       | inl next ↦ absurd ((is.values v next.comes.there).reply.not_end t)
       | inr none ↦ ended_is_end first asked old.1 none.0
     ]
+    took GetNext first from asked v _ answer t old = absurd t
 
     -- a column of which the device was asked this name
     pub takes_tracks : (o : ReadOperation) (first asked : List ℕ) (v : Variable) (old new : Progress) → Asks old asked → IsAnswered device AllSeen o asked v → Takes Seen o v new
         → Tracks device Seen o first old → Tracks device Seen o first new
-    takes_tracks o first asked v (Wanting from) new asks answer t tracks = absurd asks
     takes_tracks o first asked v (Asked ask) new asks answer t tracks =
         took o first ask.from ask.name v new (subst (λ (name : List ℕ). IsAnswered device AllSeen o name v) (sym asks) answer) t tracks
-    takes_tracks o first asked v (Given given) new asks answer t tracks = absurd asks
-    takes_tracks o first asked v Hidden new asks answer t tracks = absurd asks
-    takes_tracks o first asked v Ended new asks answer t tracks = absurd asks
+    takes_tracks o first asked v _ new asks answer t tracks = absurd asks

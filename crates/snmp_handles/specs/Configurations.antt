@@ -18,7 +18,6 @@ use Rattle.snmpsec_config.specs.declared.fault.LoadFault.TheVariants.{Duplicate}
 use Rattle.snmpsec_config.specs.declared.fault.ConfigFault.{ConfigFault}
 use Rattle.snmpsec_config.specs.declared.fault.ConfigFault.TheVariants as faults
 use Rattle.snmpsec_config.specs.Refusals.{SaysSound, RefusesText, refusal_line}
-use Rattle.snmpsec_config.specs.Told.{IsWhy}
 use Rattle.snmp_handles.specs.declared.fault.CallFault.{CallFault}
 use Rattle.snmp_handles.specs.declared.fault.CallFault.TheVariants.{Refused, BadArgument, BadConfiguration, ShortBuffer}
 
@@ -76,8 +75,7 @@ numbers_of faults.OutOfMemory = 0 ∷ 0 ∷ 1 ∷ 0 ∷ []
 
 -- two lines: the refusal, and what is wrong and what is wanted
 abbrev pub IsTold : ConfigFault → List ℕ → Type 0
-IsTold fault text = (why : List ℕ) × IsWhy fault why
-    × (text ≡ refusal_line fault ++ (codes "\n" ++ (why ++ codes "\n")))
+IsTold fault text = (why : List ℕ) × (text ≡ refusal_line fault ++ (codes "\n" ++ (why ++ codes "\n")))
 
 -- The text is refused for this fault, whose numbers stand in the front, and this is reported of it.
 abbrev pub RefusesConfig : List ℕ → List ℕ → List ℕ → List ℕ → Type 0

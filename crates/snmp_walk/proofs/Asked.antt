@@ -10,29 +10,20 @@ use Rattle.snmp_walk.specs.Dialogue.{Answers, AnswersAll, asked_in, asks_of}
 use Rattle.snmp_walk.specs.declared.operation.ReadOperation.{ReadOperation}
 use Rattle.snmp_walk.specs.declared.column.Column.{Column}
 use Rattle.snmp_walk.specs.declared.column.Progress.{Progress}
-use Rattle.snmp_walk.specs.declared.column.Progress.TheVariants.{Wanting, Asked, Given, Hidden, Ended}
+use Rattle.snmp_walk.specs.declared.column.Progress.TheVariants.{Asked}
 
 -- one that was asked was asked for a name
 pub name_asked : (p : Progress) → IsAsked p → (name : List ℕ) × Asks p name
-name_asked (Wanting from) is = absurd is
 name_asked (Asked ask) is = (ask.name, refl)
-name_asked (Given g) is = absurd is
-name_asked Hidden is = absurd is
-name_asked Ended is = absurd is
+name_asked _ is = absurd is
 
 pub asks_none : (o : ReadOperation) (p : Progress) → ¬ IsAsked p → asked_in o p ≡ []
-asks_none o (Wanting from) not = refl
 asks_none o (Asked ask) not = absurd (not tt)
-asks_none o (Given g) not = refl
-asks_none o Hidden not = refl
-asks_none o Ended not = refl
+asks_none o _ not = refl
 
 pub asks_one : (o : ReadOperation) (p : Progress) (name : List ℕ) → Asks p name → asked_in o p ≡ (o, name) ∷ []
-asks_one o (Wanting from) name asks = absurd asks
 asks_one o (Asked ask) name asks = ap (λ (n : List ℕ). (o, n) ∷ []) asks
-asks_one o (Given g) name asks = absurd asks
-asks_one o Hidden name asks = absurd asks
-asks_one o Ended name asks = absurd asks
+asks_one o _ name asks = absurd asks
 
 -- what is asked, with one more column
 pub asks_at : (cs : List Column) (i : ℕ) (d : Column) (asks more : List (ReadOperation × List ℕ)) → i < length cs → asks_of cs ≡ asks ++ asks_of (drop i cs)
@@ -47,11 +38,6 @@ answered_none o p asks vs not all = subst (λ (those : List (ReadOperation × Li
 pub answered_one : (o : ReadOperation) (p : Progress) (name : List ℕ) (asks : List (ReadOperation × List ℕ)) (v : Variable) (vs : List Variable) → Asks p name → AnswersAll (asked_in o p ++ asks) (v ∷ vs)
     → FitsPlace o name v × AnswersAll asks vs
 answered_one o p name asks v vs is all = subst (λ (those : List (ReadOperation × List ℕ)). AnswersAll (those ++ asks) (v ∷ vs)) (asks_one o p name is) all
-
-pub answered_no_one : (o : ReadOperation) (p : Progress) (asks : List (ReadOperation × List ℕ)) → IsAsked p → ¬ AnswersAll (asked_in o p ++ asks) []
-answered_no_one o p asks is all =
-    let name = name_asked p is in
-    subst (λ (those : List (ReadOperation × List ℕ)). AnswersAll (those ++ asks) []) (asks_one o p name.0 name.1) all
 
 -- fewer variables than were asked, and more
 pub too_few : (those asks more : List (ReadOperation × List ℕ)) (ask : ReadOperation × List ℕ) (vs done : List Variable) → those ≡ asks ++ ask ∷ more → vs ≡ done ++ [] → AnswersAll asks done → length vs < length those

@@ -48,11 +48,8 @@ module _ (Seen : List ℕ → Type 0) (told : List Variable) where
   }
 
   waits_walk : (first : List ℕ) (old new : Progress) → Waits old new → StandsInWalk Seen told first old → StandsInWalk Seen told first new
-  waits_walk first (Wanting from) new w stands = subst (StandsInWalk Seen told first) (sym w) stands
   waits_walk first (Asked ask) new w stands = subst (StandsInWalk Seen told first) (sym w) stands.0
-  waits_walk first (Given g) new w stands = subst (StandsInWalk Seen told first) (sym w) stands
-  waits_walk first Hidden new w stands = subst (StandsInWalk Seen told first) (sym w) stands
-  waits_walk first Ended new w stands = subst (StandsInWalk Seen told first) (sym w) stands
+  waits_walk first _ new w stands = subst (StandsInWalk Seen told first) (sym w) stands
 
   pub bulk_waits : (first : List ℕ) (given : List Variable) (old new : Progress) → Waits old new → StandsInBulk Seen told first given old → StandsInBulk Seen told first given new
   bulk_waits first given old new w stands = record {

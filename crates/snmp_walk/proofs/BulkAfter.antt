@@ -46,23 +46,19 @@ same_map f (x ∷ xs) (suc i) y e = λ j. f x ∷ same_map f xs i y e j
 
 module _ (Seen : List ℕ → Type 0) where
   pub less_answered : (answer : Pdu) (old new : BulkDialogue) (becomes : BulkAnswered) → IsTooBig old answer → IsLessAnswered old new becomes → IsBulkAnswered Seen answer old new becomes
-  less_answered answer old new Taken big less = absurd less
-  less_answered answer old new (Unfit fault) big less = absurd less
   less_answered answer old new Less big less = (big, less)
   less_answered answer old new Front big less = (big, less)
   less_answered answer old new TooBig big less = (big, less)
-  less_answered answer old new (Ended number) big less = absurd less
-  less_answered answer old new (Failed column) big less = absurd less
+  less_answered answer old new _ big less = absurd less
 
   pub answered_same : (answer : Pdu) (old new : BulkDialogue) (becomes : BulkAnswered) → IsBulkAnswered Seen answer old new becomes → bulk_requests new ≡ bulk_requests old
   answered_same answer old new Taken is = read_same Seen (is_next old.ask) old.columns.items (turns_of old) (variables_of answer.list.now) new.columns.items is.2
   answered_same answer old new (Unfit fault) is = says_same old new is.3
   answered_same answer old new Less is = all_wait_same old.columns.items new.columns.items is.1.waits
-  answered_same answer old new Front is = ap bulk_requests is.1.2
-  answered_same answer old new TooBig is = ap bulk_requests is.1.2
   answered_same answer old new (Ended number) is =
       all_wait_same (set old.columns.items number is.2.ended) new.columns.items is.2.waits ∙ same_map bulk_request old.columns.items number is.2.ended (is.2.same is.2.ended)
   answered_same answer old new (Failed column) is = ap bulk_requests is.4
+  answered_same answer old new _ is = ap bulk_requests is.1.2
 
   pub result_same : {E : Type 0} (answer : Pdu) (old new : BulkDialogue) (r : Result BulkAnswered E) → IfOk r (λ becomes. IsBulkAnswered Seen answer old new becomes) → OnErr r (DialogueSaysSame old new) → bulk_requests new ≡ bulk_requests old
   result_same answer old new (Ok becomes) is same = answered_same answer old new becomes is
@@ -89,16 +85,14 @@ module _ (Seen : List ℕ → Type 0) where
     answered_stand answer old new Taken is tells all = read_stands Seen told (is_next old.ask) old.columns.items (turns_of old) (variables_of answer.list.now) new.columns.items is.2 tells all
     answered_stand answer old new (Unfit fault) is tells all = zip_all SaysSame (BulkStands Seen told) (BulkStands Seen told) (same_stands Seen told) old.columns.items new.columns.items is.3.columns all
     answered_stand answer old new Less is tells all = all_wait_stand Seen told old.columns.items new.columns.items is.1.waits all
-    answered_stand answer old new Front is tells all = subst (BulkAllStand Seen told) (sym is.1.2) all
-    answered_stand answer old new TooBig is tells all = subst (BulkAllStand Seen told) (sym is.1.2) all
     answered_stand answer old new (Ended number) is tells all = ends_stand old.columns.items number new.columns.items answer.third tells.0 tells.1 tells.2 is.1 is.2 all
     answered_stand answer old new (Failed column) is tells all = subst (BulkAllStand Seen told) (sym is.4) all
+    answered_stand answer old new _ is tells all = subst (BulkAllStand Seen told) (sym is.1.2) all
 
   pub answered_rounds : (answer : Pdu) (old new : BulkDialogue) (becomes : BulkAnswered) → IsBulkAnswered Seen answer old new becomes → new.rounds ≡ old.rounds
-  answered_rounds answer old new Taken is = is.4
   answered_rounds answer old new (Unfit fault) is = is.3.rounds
   answered_rounds answer old new Less is = is.1.rounds
   answered_rounds answer old new Front is = ap (λ (d : BulkDialogue). d.rounds) is.1.2
   answered_rounds answer old new TooBig is = ap (λ (d : BulkDialogue). d.rounds) is.1.2
-  answered_rounds answer old new (Ended number) is = is.4
   answered_rounds answer old new (Failed column) is = ap (λ (d : BulkDialogue). d.rounds) is.4
+  answered_rounds answer old new _ is = is.4

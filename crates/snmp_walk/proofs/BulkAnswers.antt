@@ -14,7 +14,7 @@ use Rattle.snmp_walk.specs.BulkAnswer.{AllSaySame, IsRead}
 use Rattle.snmp_walk.specs.Turns.{AreAsked, AreTurns, IsTurnAt, ReadsTurns}
 use Rattle.snmp_walk.specs.declared.given.GivenVariable.{GivenVariable}
 use Rattle.snmp_walk.specs.declared.column.Progress.{Progress}
-use Rattle.snmp_walk.specs.declared.column.Progress.TheVariants.{Wanting, Asked, Given, Hidden, Ended}
+use Rattle.snmp_walk.specs.declared.column.Progress.TheVariants.{Wanting, Asked}
 use Rattle.snmp_walk.specs.declared.bulk_column.BulkColumn.{BulkColumn}
 use Rattle.snmp_walk.proofs.Bulk.{bulk_takes, bulk_waits}
 use Rattle.snmp_walk.proofs.BulkReads.{all_grow_on, all_grow_same, grows_on, zip_at}
@@ -22,11 +22,8 @@ use Rattle.snmp_walk.proofs.Zipped.{zip_all, zip_on, zip_same}
 
 -- a walk that was asked has its turn
 has_turn : (p : Progress) → IsAsked p → (turn : Progress) × (turn_of p ≡ Some turn)
-has_turn (Wanting from) asked = absurd asked
 has_turn (Asked ask) asked = (Asked ask, refl)
-has_turn (Given g) asked = absurd asked
-has_turn Hidden asked = absurd asked
-has_turn Ended asked = absurd asked
+has_turn _ asked = absurd asked
 
 pub turns_begin : (olds begun : List BulkColumn) (ts : List ℕ) → AllZip IsBegun olds begun → AreAsked olds ts → AreTurns begun ts
 turns_begin olds begun ts begins asked =
@@ -109,10 +106,7 @@ module _ (Seen : List ℕ → Type 0) (told : List Variable) where
 
   same_turn : (p : Progress) → current (turn_of p) p ≡ p
   same_turn (Wanting from) = refl
-  same_turn (Asked ask) = refl
-  same_turn (Given g) = refl
-  same_turn Hidden = refl
-  same_turn Ended = refl
+  same_turn _ = refl
 
   stands_as : (old new : BulkColumn) (p q : Progress) → bulk_request new ≡ bulk_request old → new.got.items ≡ old.got.items → q ≡ p → StandsInBulk Seen told old.first (given_in old) p → StandsInBulk Seen told new.first (given_in new) q
   stands_as old new p q same given progress stands =

@@ -96,9 +96,7 @@ open_is_asked Seen (Wanting from) (Given g) goes is = absurd goes
 open_is_asked Seen (Wanting from) Hidden goes is = absurd goes
 open_is_asked Seen (Wanting from) Ended goes is = absurd is
 open_is_asked Seen (Asked ask) new goes is = subst IsAsked (sym goes) tt
-open_is_asked Seen (Given g) new goes is = absurd (subst IsOpen goes is)
-open_is_asked Seen Hidden new goes is = absurd (subst IsOpen goes is)
-open_is_asked Seen Ended new goes is = absurd (subst IsOpen goes is)
+open_is_asked Seen _ new goes is = absurd (subst IsOpen goes is)
 
 wants_is_asked : (Seen : List ℕ → Type 0) (old new : BulkColumn) → BulkGoesOn Seen old new → Wants new → IsAsked new.progress
 wants_is_asked Seen old new goes wants =

@@ -22,7 +22,7 @@ use Rattle.snmp_walk.specs.declared.column.Progress.TheVariants as progress
 use Rattle.snmp_walk.specs.declared.bulk_column.BulkColumn.{BulkColumn}
 use Rattle.snmp_walk.specs.declared.bulk_dialogue.BulkDialogue.{BulkDialogue}
 use Rattle.snmp_walk.specs.declared.bulk_dialogue.BulkAnswered.{BulkAnswered}
-use Rattle.snmp_walk.specs.declared.bulk_dialogue.BulkAnswered.TheVariants.{Taken, Unfit, Less, Front, TooBig, Ended, Failed}
+use Rattle.snmp_walk.specs.declared.bulk_dialogue.BulkAnswered.TheVariants.{Taken, Unfit, Less, Ended, Failed}
 use Rattle.snmp_walk.specs.declared.bulk_dialogue.BulkNext.{BulkNext}
 use Rattle.snmp_walk.specs.declared.bulk_dialogue.BulkNext.TheVariants as next
 use Rattle.snmp_walk.proofs.BulkGoing.{StaysWaits, chooses_each}
@@ -34,11 +34,8 @@ abbrev pub IsNamedBulk : BulkColumn → Type 0
 IsNamedBulk c = IsNamed c.progress
 
 waits_named : (old new : Progress) → Waits old new → IsNamed old → IsNamed new
-waits_named (progress.Wanting from) new w named = subst IsNamed (sym w) named
 waits_named (progress.Asked ask) new w named = subst IsNamed (sym w) named.0
-waits_named (progress.Given g) new w named = subst IsNamed (sym w) named
-waits_named progress.Hidden new w named = subst IsNamed (sym w) named
-waits_named progress.Ended new w named = subst IsNamed (sym w) named
+waits_named _ new w named = subst IsNamed (sym w) named
 
 all_wait_named : (olds news : List BulkColumn) → AllZip ColumnWaits olds news → All IsNamedBulk olds → All IsNamedBulk news
 all_wait_named olds news waits named =
@@ -59,11 +56,8 @@ abbrev IsReadNamed : BulkColumn → Type 0
 IsReadNamed c = IsNamed c.progress × IsTurnNamed c.reading
 
 turn_named : (p : Progress) → IsNamed p → IsTurnNamed (turn_of p)
-turn_named (progress.Wanting from) named = tt
 turn_named (progress.Asked ask) named = named
-turn_named (progress.Given g) named = tt
-turn_named progress.Hidden named = tt
-turn_named progress.Ended named = tt
+turn_named _ named = tt
 
 begun_named : (old new : BulkColumn) → IsBegun old new → IsNamedBulk old → IsReadNamed new
 begun_named old new begun named =
@@ -116,8 +110,7 @@ module _ (Seen : List ℕ → Type 0) where
   next_named old new (next.Asks ask) is named =
       all_chosen_named old.non_repeaters is.1.chosen.fewest 0 (max old.at_once 1) is.1.columns new.columns.items is.1.chosen.chooses
       (all_go_named old.columns.items is.1.columns is.1.goes_on named)
-  next_named old new next.Ends is named = all_go_named old.columns.items new.columns.items is.1 named
-  next_named old new (next.RoundsUsedUp number) is named = all_go_named old.columns.items new.columns.items is.1 named
+  next_named old new _ is named = all_go_named old.columns.items new.columns.items is.1 named
 
   same_named : (olds news : List BulkColumn) → AllZip SaysSame olds news → All IsNamedBulk olds → All IsNamedBulk news
   same_named olds news same named =
@@ -132,10 +125,9 @@ module _ (Seen : List ℕ → Type 0) where
       read_named (is_next old.ask) old.columns.items (turns_of old) (variables_of answer.list.now) new.columns.items is.2 (all_named answer.list.now) named
   answered_named answer old new (Unfit fault) is named = same_named old.columns.items new.columns.items is.3.columns named
   answered_named answer old new Less is named = all_wait_named old.columns.items new.columns.items is.1.waits named
-  answered_named answer old new Front is named = subst BulkAllNamed (sym is.1.2) named
-  answered_named answer old new TooBig is named = subst BulkAllNamed (sym is.1.2) named
   answered_named answer old new (Ended number) is named = ends_named old.columns.items number new.columns.items is.2 named
   answered_named answer old new (Failed column) is named = subst BulkAllNamed (sym is.4) named
+  answered_named answer old new _ is named = subst BulkAllNamed (sym is.1.2) named
 
   pub result_named : {E : Type 0} (answer : Pdu) (old new : BulkDialogue) (r : Result BulkAnswered E) → IfOk r (λ becomes. IsBulkAnswered Seen answer old new becomes) → OnErr r (DialogueSaysSame old new) → BulkAllNamed old → BulkAllNamed new
   result_named answer old new (Ok becomes) is same named = answered_named answer old new becomes is named

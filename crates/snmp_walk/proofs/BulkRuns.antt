@@ -12,7 +12,7 @@ use Rattle.snmp_walk.specs.BulkDialogue.{BulkAllStand, IsBulkNext, bulk_requests
 use Rattle.snmp_walk.specs.BulkRun.{BulkAsksWell, BulkStep, IsBulkRun, asks_of_bulk, bulk_asks_in, came, goes}
 use Rattle.snmp_walk.specs.declared.operation.ReadOperation.TheVariants.{GetNext}
 use Rattle.snmp_walk.specs.declared.column.Progress.{Progress}
-use Rattle.snmp_walk.specs.declared.column.Progress.TheVariants.{Wanting, Asked, Given, Hidden, Ended}
+use Rattle.snmp_walk.specs.declared.column.Progress.TheVariants.{Asked}
 use Rattle.snmp_walk.specs.declared.bulk_column.BulkColumn.{BulkColumn}
 use Rattle.snmp_walk.specs.declared.bulk_dialogue.BulkDialogue.{BulkDialogue}
 use Rattle.snmp_walk.specs.declared.bulk_dialogue.BulkNext.{BulkNext}
@@ -46,32 +46,26 @@ module _ (Seen : List ℕ → Type 0) (told : List Variable) where
   }
 
   asks_well : (first : List ℕ) (given : List Variable) (p : Progress) → StandsInBulk Seen told first given p → (name : List ℕ) → Asks p name → MayAsk Seen told GetNext first name
-  asks_well first given (Wanting from) stands name asks = absurd asks
   asks_well first given (Asked ask) stands name asks =
       subst (λ (n : List ℕ). MayAsk Seen told GetNext first n) asks
       (ask.from, stands_on first (last_name first given) ask.from (shown_stands first given stands.ascends stands.are_given) stands.walk.0, stands.walk.1)
-  asks_well first given (Given g) stands name asks = absurd asks
-  asks_well first given Hidden stands name asks = absurd asks
-  asks_well first given Ended stands name asks = absurd asks
+  asks_well first given _ stands name asks = absurd asks
 
   next_stands : (old new : BulkDialogue) (becomes : BulkNext) → IsBulkNext Seen old new becomes → BulkAllStand Seen told old → BulkAllStand Seen told new
   next_stands old new (next.Asks ask) is all =
       all_chosen_stand Seen told old.non_repeaters is.1.chosen.fewest 0 (max old.at_once 1) is.1.columns new.columns.items is.1.chosen.chooses
       (all_go_stand Seen told old.columns.items is.1.columns is.1.goes_on all)
-  next_stands old new next.Ends is all = all_go_stand Seen told old.columns.items new.columns.items is.1 all
-  next_stands old new (next.RoundsUsedUp number) is all = all_go_stand Seen told old.columns.items new.columns.items is.1 all
+  next_stands old new _ is all = all_go_stand Seen told old.columns.items new.columns.items is.1 all
 
   next_same : (old new : BulkDialogue) (becomes : BulkNext) → IsBulkNext Seen old new becomes → bulk_requests new ≡ bulk_requests old
   next_same old new (next.Asks ask) is =
       all_chosen_same old.non_repeaters is.1.chosen.fewest 0 (max old.at_once 1) is.1.columns new.columns.items is.1.chosen.chooses
       ∙ all_goes_same Seen old.columns.items is.1.columns is.1.goes_on
-  next_same old new next.Ends is = all_goes_same Seen old.columns.items new.columns.items is.1
-  next_same old new (next.RoundsUsedUp number) is = all_goes_same Seen old.columns.items new.columns.items is.1
+  next_same old new _ is = all_goes_same Seen old.columns.items new.columns.items is.1
 
   next_rounds : (old new : BulkDialogue) (becomes : BulkNext) → IsBulkNext Seen old new becomes → asks_of_bulk becomes + new.rounds ≡ old.rounds
   next_rounds old new (next.Asks ask) is = omega (arith, is.1.rounds)
-  next_rounds old new next.Ends is = omega (arith, is.2)
-  next_rounds old new (next.RoundsUsedUp number) is = omega (arith, is.2)
+  next_rounds old new _ is = omega (arith, is.2)
 
   pub bulk_run_stands : (steps : List BulkStep) (first last : BulkDialogue) → BulkAllStand Seen told first → IsBulkRun Seen told first steps last → BulkAllStand Seen told last
   bulk_run_stands [] first last stand run = subst (BulkAllStand Seen told) (sym run) stand

@@ -1,8 +1,8 @@
 -- Which columns are asked.
 use Rattle.std.specs.Prelude.{◌≡◌, ◌⊎◌, ◌<◌, ◌≤◌, ◌+◌, ℕ, List, [], ◌∷◌, ◌++◌, length, drop, set, slice_index_or, Bool, IsTrue, ◌↔◌, Option, Some, None, MatchOption}
 use Rattle.std.specs.List.{HoldsAt}
-use Rattle.std.proofs.Common.{refl, sym, ap, subst, ◌∙◌, inl, inr, arith, append_assoc}
-use Rattle.std.proofs.lemmas.List.{drop_more, drop_all, length-append, length-drop, length_push, set_at}
+use Rattle.std.proofs.Common.{sym, ap, subst, ◌∙◌, inl, inr, arith, append_assoc}
+use Rattle.std.proofs.lemmas.List.{drop_more, length-append, length-drop, length_push, set_at}
 use Rattle.std.proofs.lemmas.Bool.{cases_lt}
 use Rattle.snmp_walk.specs.Column.{IsAsked}
 use Rattle.snmp_walk.specs.BulkAsk.{Chooses, IsDue, StaysOrWaits}
@@ -24,9 +24,6 @@ pub record ChosenUpto (non_repeaters fewest room : ℕ) (olds : List BulkColumn)
   pub long : length done ≡ i
   pub are : now ≡ done ++ drop i olds
   pub on : (rest : List BulkColumn) → Chooses non_repeaters fewest i left (drop i olds) rest → Chooses non_repeaters fewest 0 room olds (done ++ rest)
-
-pub none_chosen : (non_repeaters fewest room : ℕ) (olds : List BulkColumn) → ChosenUpto non_repeaters fewest room olds 0 room olds
-none_chosen non_repeaters fewest room olds = record { done = []; long = refl; are = refl; on = λ rest chooses. chooses }
 
 pub chosen_within : (non_repeaters fewest room : ℕ) (olds : List BulkColumn) (i left : ℕ) (now : List BulkColumn) → i < length olds → ChosenUpto non_repeaters fewest room olds i left now → i < length now
 chosen_within non_repeaters fewest room olds i left now within upto =
@@ -50,12 +47,6 @@ one_chosen non_repeaters fewest room olds i left now d new due after within upto
             | inr waits ↦ inr (λ both. waits.0 (is_due.1 both.0, both.1), waits.1, subst (λ k. Chooses non_repeaters fewest (i + 1) k rest news) waits.2 chooses)
           ])));
     }
-
-pub all_chosen : (non_repeaters fewest room : ℕ) (olds : List BulkColumn) (i left : ℕ) (now : List BulkColumn) → length olds ≤ i → ChosenUpto non_repeaters fewest room olds i left now → Chooses non_repeaters fewest 0 room olds now
-all_chosen non_repeaters fewest room olds i left now past upto =
-    let none = drop_all i olds past in
-    subst (λ (cs : List BulkColumn). Chooses non_repeaters fewest 0 room olds cs) (sym (upto.are ∙ ap (λ (cs : List BulkColumn). upto.done ++ cs) none))
-    (upto.on [] (subst (λ (cs : List BulkColumn). Chooses non_repeaters fewest i left cs []) (sym none) refl))
 
 -- how one more count is the fewest
 abbrev pub IsLesser : Option ℕ → ℕ → ℕ → Type 0

@@ -1,7 +1,7 @@
 -- What becomes of the columns of a dialogue.
 use Rattle.std.specs.Prelude.{◌≡◌, ◌<◌, ◌≤◌, ◌+◌, ◌-◌, List, [], ◌∷◌, ◌++◌, ℕ, All, Contains, length, map, take, drop, set, slice_index_or}
-use Rattle.std.proofs.Common.{refl, sym, ap, subst, ◌∙◌, inl, inr, arith, append_assoc, append-nil}
-use Rattle.std.proofs.lemmas.List.{length-append, length-drop, length_push, drop_more, take_more, set_at, drop_all, take_all}
+use Rattle.std.proofs.Common.{refl, sym, ap, subst, ◌∙◌, inl, inr, append_assoc}
+use Rattle.std.proofs.lemmas.List.{length_push, drop_more, take_more, set_at}
 use Rattle.std.proofs.lemmas.List.Elements.{All-cons, All-head, All-tail}
 use Rattle.snmp_msg.specs.Variables.{Variable}
 use Rattle.snmp_walk.specs.Column.{IsAsked, Stands, StandsIn}
@@ -11,11 +11,6 @@ use Rattle.snmp_walk.specs.declared.column.Column.{Column}
 use Rattle.snmp_walk.proofs.Steps.{goes_on_stands, takes_stands}
 use Rattle.snmp_walk.proofs.Changed.{left_at}
 use Rattle.snmp_walk.proofs.Asked.{name_asked, answered_none, answered_one}
-
--- nothing answers nothing
-nothing : (vs : List Variable) → AnswersAll [] vs → vs ≡ []
-nothing [] all = refl
-nothing (v ∷ vs) all = absurd all
 
 module _ (Seen : List ℕ → Type 0) where
   pub same_after_going : (olds news : List Column) → AllGoOn Seen olds news → map request news ≡ map request olds
@@ -84,9 +79,6 @@ module _ (Seen : List ℕ → Type 0) where
   TakenUpTo olds i now all left = (done : List Column) × (length done ≡ i) × (now ≡ done ++ drop i olds)
       × (vs : List Variable) × (all ≡ vs ++ left) × AllTake Seen (take i olds) vs done × AnswersAll (asks_of (drop i olds)) left
 
-  pub none_taken : (olds : List Column) (all : List Variable) → AnswersAll (asks_of olds) all → TakenUpTo olds 0 olds all all
-  none_taken olds all fit = ([], refl, refl, [], refl, (refl, refl), fit)
-
   -- what answers the column at this place and those after it
   pub answers_at : (olds : List Column) (i : ℕ) (now : List Column) (all left : List Variable) (d : Column) → i < length now → TakenUpTo olds i now all left
       → AnswersAll (asked_in (slice_index_or now i d).operation (slice_index_or now i d).progress ++ asks_of (drop (i + 1) olds)) left
@@ -127,14 +119,3 @@ module _ (Seen : List ℕ → Type 0) where
             (takes_more (take i olds) taken.3 done c v new taken.5 takes),
         (answered_one c.operation c.progress name.0 (asks_of (drop (i + 1) olds)) v left name.1 (answers_at olds i now all (v ∷ left) d within taken)).1,
       )
-
-  pub all_taken : (olds : List Column) (i : ℕ) (now : List Column) (all left : List Variable) → length now ≤ i → TakenUpTo olds i now all left → AllTake Seen olds all now
-  all_taken olds i now all left past taken =
-      let done = taken.0 in
-      let counted : length now ≡ length done + (length olds - i) = ap length taken.2 ∙ length-append done (drop i olds) ∙ ap (λ n. length done + n) (length-drop i olds) in
-      let short : length olds ≤ i = omega (arith, counted, past, taken.1) in
-      let none : left ≡ [] = nothing left (subst (λ (cs : List Column). AnswersAll (asks_of cs) left) (drop_all i olds short) taken.6) in
-      let is = taken.2 ∙ ap (λ (cs : List Column). done ++ cs) (drop_all i olds short) ∙ append-nil done in
-      subst (λ (cs : List Column). AllTake Seen olds all cs) (sym is)
-      (subst (λ (vs : List Variable). AllTake Seen olds vs done) (sym (taken.4 ∙ ap (λ (vs : List Variable). taken.3 ++ vs) none ∙ append-nil taken.3))
-      (subst (λ (cs : List Column). AllTake Seen cs taken.3 done) (take_all i olds short) taken.5))

@@ -12,9 +12,6 @@ pub record RowUpto (cs : List BulkColumn) (k i : ℕ) (row : List Variable) : Ty
   pub whole : (rest : List Variable) → IsRowAt (drop i cs) k rest → IsRowAt cs k (row ++ rest)
   pub cut : (rest : List Variable) → IsCutRow (drop i cs) k rest → IsCutRow cs k (row ++ rest)
 
-pub no_row : (cs : List BulkColumn) (k : ℕ) → RowUpto cs k 0 []
-no_row cs k = record { whole = λ rest is. is; cut = λ rest is. is }
-
 pub row_more : (cs : List BulkColumn) (k i : ℕ) (row : List Variable) (c : BulkColumn) (v : Variable) → i < length cs → c ≡ slice_index_or cs i c → IsAt c k v → RowUpto cs k i row → RowUpto cs k (i + 1) (row ++ v ∷ [])
 row_more cs k i row c v within is at upto =
     let split : drop i cs ≡ c ∷ drop (i + 1) cs = drop_more cs i c within ∙ ap (λ (x : BulkColumn). x ∷ drop (i + 1) cs) (sym is) in

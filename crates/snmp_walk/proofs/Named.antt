@@ -33,10 +33,7 @@ module _ (Seen : List ℕ → Type 0) where
   begun_named Get first Hidden b named = tt
   begun_named Get first Ended b named = absurd b
   begun_named GetNext first (Wanting from) b named = subst IsObjectId (sym b) named
-  begun_named GetNext first (Asked ask) b named = absurd b
-  begun_named GetNext first (Given g) b named = absurd b
-  begun_named GetNext first Hidden b named = absurd b
-  begun_named GetNext first Ended b named = absurd b
+  begun_named GetNext first _ b named = absurd b
 
   place_named : (from place : List ℕ) → WalksFrom Seen from place → IsObjectId from → IsObjectId place
   place_named from place walks named = elim walks.is_place [
@@ -45,35 +42,23 @@ module _ (Seen : List ℕ → Type 0) where
   ]
 
   went_named : (o : ReadOperation) (from : List ℕ) (p : Progress) → GoesOnFrom Seen o from p → IsObjectId from → IsNamed p
-  went_named Get from (Wanting name) g named = absurd g
   went_named Get from (Asked ask) g named = (subst IsObjectId (sym g.0) named, subst IsObjectId (sym g.1) named)
-  went_named Get from (Given given) g named = absurd g
-  went_named Get from Hidden g named = absurd g
-  went_named Get from Ended g named = absurd g
-  went_named GetNext from (Wanting name) g named = absurd g
+  went_named Get from _ g named = absurd g
   went_named GetNext from (Asked ask) g named = (subst IsObjectId (sym g.0) named, place_named from ask.name g.1 named)
-  went_named GetNext from (Given given) g named = absurd g
-  went_named GetNext from Hidden g named = absurd g
   went_named GetNext from Ended g named = tt
+  went_named GetNext from _ g named = absurd g
 
   pub goes_on_named : (o : ReadOperation) (old new : Progress) → GoesOn Seen o old new → IsNamed old → IsNamed new
   goes_on_named o (Wanting from) new g named = went_named o from new g named
-  goes_on_named o (Asked ask) new g named = subst IsNamed (sym g) named
-  goes_on_named o (Given given) new g named = subst IsNamed (sym g) named
-  goes_on_named o Hidden new g named = subst IsNamed (sym g) named
-  goes_on_named o Ended new g named = subst IsNamed (sym g) named
+  goes_on_named o _ new g named = subst IsNamed (sym g) named
 
   takes_named : (o : ReadOperation) (v : Variable) (p : Progress) → Takes Seen o v p → IsObjectId v.name → IsNamed p
-  takes_named Get v (Wanting from) t named = absurd t
-  takes_named Get v (Asked ask) t named = absurd t
   takes_named Get v (Given g) t named = tt
-  takes_named Get v Hidden t named = absurd t
-  takes_named Get v Ended t named = absurd t
+  takes_named Get v _ t named = absurd t
   takes_named GetNext v (Wanting from) t named = subst IsObjectId (sym t.2) named
-  takes_named GetNext v (Asked ask) t named = absurd t
   takes_named GetNext v (Given g) t named = tt
-  takes_named GetNext v Hidden t named = absurd t
   takes_named GetNext v Ended t named = tt
+  takes_named GetNext v _ t named = absurd t
 
   pub named_after_going : (olds news : List Column) → AllGoOn Seen olds news → All IsNamedColumn olds → All IsNamedColumn news
   named_after_going olds news all named =

@@ -10,7 +10,7 @@ use Rattle.snmp_walk.specs.declared.operation.ReadOperation.{ReadOperation}
 use Rattle.snmp_walk.specs.declared.operation.ReadOperation.TheVariants.{Get, GetNext}
 use Rattle.snmp_walk.specs.declared.column.Column.{Column}
 use Rattle.snmp_walk.specs.declared.column.Progress.{Progress}
-use Rattle.snmp_walk.specs.declared.column.Progress.TheVariants.{Wanting, Asked, Given, Hidden, Ended}
+use Rattle.snmp_walk.specs.declared.column.Progress.TheVariants.{Asked}
 use Rattle.snmp_walk.specs.declared.dialogue.Dialogue.{Dialogue}
 use Rattle.snmp_walk.specs.declared.dialogue.Next.{Next}
 use Rattle.snmp_walk.specs.declared.dialogue.Next.TheVariants as next
@@ -19,16 +19,10 @@ use Rattle.snmp_walk.proofs.After.{rounds_after, same_after, stand_after}
 
 -- a column that stands asks well
 asks_well : (Seen : List ℕ → Type 0) (told : List Variable) (o : ReadOperation) (first : List ℕ) (p : Progress) → StandsIn Seen told o first p → (name : List ℕ) → Asks p name → MayAsk Seen told o first name
-asks_well Seen told Get first (Wanting from) stands name asks = absurd asks
 asks_well Seen told Get first (Asked ask) stands name asks = (sym asks ∙ stands.0, stands.1)
-asks_well Seen told Get first (Given g) stands name asks = absurd asks
-asks_well Seen told Get first Hidden stands name asks = absurd asks
-asks_well Seen told Get first Ended stands name asks = absurd asks
-asks_well Seen told GetNext first (Wanting from) stands name asks = absurd asks
+asks_well Seen told Get first _ stands name asks = absurd asks
 asks_well Seen told GetNext first (Asked ask) stands name asks = subst (λ (n : List ℕ). MayAsk Seen told GetNext first n) asks (ask.from, stands.0, stands.1)
-asks_well Seen told GetNext first (Given g) stands name asks = absurd asks
-asks_well Seen told GetNext first Hidden stands name asks = absurd asks
-asks_well Seen told GetNext first Ended stands name asks = absurd asks
+asks_well Seen told GetNext first _ stands name asks = absurd asks
 
 module _ (Seen : List ℕ → Type 0) (told : List Variable) where
   pub run_stands : (steps : List Step) (first last : Dialogue) → AllStand Seen told first → IsRun Seen told first steps last → AllStand Seen told last
@@ -41,9 +35,8 @@ module _ (Seen : List ℕ → Type 0) (told : List Variable) where
       All-weaker (Stands Seen told) (AsksWell Seen told) (λ (c : Column) stands. asks_well Seen told c.operation c.first c.progress stands) last.columns.items (run_stands steps first last stand run)
 
   after_going : (old new : Dialogue) (becomes : Next) → IsNext old new becomes → asks_of_next becomes + new.rounds ≡ old.rounds
-  after_going old new next.Asks is = omega (arith, is.0)
-  after_going old new next.Ends is = omega (arith, is.0)
   after_going old new (next.RoundsUsedUp number) is = omega (arith, is.0, is.1)
+  after_going old new _ is = omega (arith, is.0)
 
   pub run_rounds : (steps : List Step) (first last : Dialogue) → IsRun Seen told first steps last → asks_in steps + last.rounds ≡ first.rounds
   run_rounds [] first last run = omega (arith, ap (λ (d : Dialogue). d.rounds) run)

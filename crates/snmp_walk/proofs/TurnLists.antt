@@ -1,10 +1,9 @@
 -- Turns, one after another.
-use Rattle.std.specs.Prelude.{◌≡◌, ◌⊎◌, ◌<◌, ◌≤◌, ◌+◌, ◌-◌, ℕ, zero, suc, List, [], ◌∷◌, ◌++◌, All, length, drop, slice_index_or}
+use Rattle.std.specs.Prelude.{◌≡◌, ◌⊎◌, ◌<◌, ◌≤◌, ◌+◌, ◌-◌, ℕ, zero, suc, List, [], ◌∷◌, ◌++◌, All, length, drop}
 use Rattle.std.proofs.Common.{refl, sym, ap, ◌∙◌, inl, inr, arith}
-use Rattle.std.proofs.lemmas.List.{drop_more, drop_all}
+use Rattle.std.proofs.lemmas.List.{drop_all}
 use Rattle.std.proofs.lemmas.List.Elements.{All-append}
-use Rattle.snmp_walk.specs.Turns.{repeated, turn_in, turns_from}
-use Rattle.snmp_walk.specs.declared.bulk_column.BulkColumn.{BulkColumn}
+use Rattle.snmp_walk.specs.Turns.{repeated}
 
 -- nothing, however often
 pub repeated_nothing : (n : ℕ) → repeated n [] ≡ []
@@ -19,11 +18,6 @@ repeated_once (suc n) numbers some = let less : suc n - 1 ≡ n = omega arith in
 pub all_repeated : (P : ℕ → Type 0) (n : ℕ) (numbers : List ℕ) → All P numbers → All P (repeated n numbers)
 all_repeated P zero numbers all = λ k d below. absurd (omega (arith, below))
 all_repeated P (suc n) numbers all = All-append P numbers (repeated n numbers) all (all_repeated P n numbers all)
-
--- the numbers from a column on
-pub turns_at : (cs : List BulkColumn) (i : ℕ) (c : BulkColumn) → i < length cs → c ≡ slice_index_or cs i c → turns_from i (drop i cs) ≡ turn_in i c.progress ++ turns_from (i + 1) (drop (i + 1) cs)
-turns_at cs i c within is =
-    ap (turns_from i) (drop_more cs i c within) ∙ ap (λ (x : BulkColumn). turn_in i x.progress ++ turns_from (i + 1) (drop (i + 1) cs)) (sym is)
 
 -- a repetition that is over, and the next one
 pub begun_again : (front again : List ℕ) (at left : ℕ) → length again ≤ at → 0 < left → front ++ (again ++ repeated (left - 1) again) ≡ front ++ (drop at again ++ repeated left again)

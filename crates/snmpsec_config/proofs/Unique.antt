@@ -1,6 +1,6 @@
 -- A text stands for one list of rows, and a text whose rows load is refused by no cause.
 use Rattle.std.proofs.Common.{◌≡◌, ℕ, Bool, List, [], ◌∷◌, length, map, Option, Some, None, refl, sym, ap, ◌∙◌, arith, inl, inr}
-use Rattle.toml.specs.Data.{Data, string, integer, float, boolean, datetime, array, table, Items, no_items, item, Members}
+use Rattle.toml.specs.Data.{Data, string, boolean, table, Items, no_items, item, Members}
 use Rattle.snmp_ber.specs.Oid.{dotted}
 use Rattle.snmp_ber.proofs.Dotted.{dotted_pieces, same_arcs}
 use Rattle.snmp_ber.specs.declared.level.Level.{Level}
@@ -155,12 +155,7 @@ one_family t a b h k =
 module _ {R S : Type 0} (Stands : Members → R → Type 0) (f : R → S) (one : (t : Members) (a b : R) → Stands t a → Stands t b → f a ≡ f b) where
   one_row : (d : Data) (a b : R) → IsRow Stands d a → IsRow Stands d b → f a ≡ f b
   one_row (table t) a b h k = one t a b h k
-  one_row (array values) a b h k = absurd h
-  one_row (string s) a b h k = absurd h
-  one_row (integer z) a b h k = absurd h
-  one_row (float x) a b h k = absurd h
-  one_row (boolean x) a b h k = absurd h
-  one_row (datetime dt) a b h k = absurd h
+  one_row _ a b h k = absurd h
 
   pub one_list : (values : Items) (xs ys : List R) → AreRows Stands values xs → AreRows Stands values ys → map f xs ≡ map f ys
   one_list no_items [] [] h k = refl

@@ -104,9 +104,7 @@ no_user_fault users others f e sound first =
 pub no_access_fault : (rows : Tables) (of : Table) (position : ℕ) (wrong : LoadFault) → access_rows.AreSound rows → TellsAccess rows of position wrong → ⊥
 no_access_fault rows of position BadRow sound told = let never = sym (sound of position) ∙ told.there in cc
 no_access_fault rows of position Duplicate sound told = let never = sym (sound of position) ∙ told.there in cc
-no_access_fault rows of position BadUser sound told = told
-no_access_fault rows of position ShortPassword sound told = told
-no_access_fault rows of position DuplicateUser sound told = told
+no_access_fault rows of position _ sound told = told
 
 -- ---- a document that stands for rows has no table that stands for none
 
@@ -140,8 +138,7 @@ pub no_user_told : (users others : List UserRow) (position : ℕ) (wrong : LoadF
 no_user_told users others position BadUser e sound told = no_user_fault users others (user_faults.BadUser position) e sound told
 no_user_told users others position ShortPassword e sound told = no_user_fault users others (user_faults.ShortPassword position) e sound told
 no_user_told users others position DuplicateUser e sound told = no_user_fault users others (user_faults.DuplicateUser position) e sound told
-no_user_told users others position BadRow e sound told = told
-no_user_told users others position Duplicate e sound told = told
+no_user_told users others position _ e sound told = told
 
 no_row_told : (users others : List UserRow) (rows : Tables) (of : ConfigTable) (position : ℕ) (wrong : LoadFault) → map user_values users ≡ map user_values others → user_rows.AreSound users → access_rows.AreSound rows
     → TellsRow others rows of position wrong → ⊥

@@ -1,12 +1,7 @@
 //! Why a configuration is refused, and how that is printed.
 
-ghost use Rattle.std.specs.Prelude.{◌≡◌, ◌≢◌, ◌++◌, codes, Option, Some, IfOk, IfSome, Contains, MatchBool};
-ghost use Rattle.std.specs.Prelude.{string_bytes};
-ghost use Rattle.snmpsec_config.specs.Keys.{listed};
+ghost use Rattle.std.specs.Prelude.{◌≡◌, ◌≢◌, Some, MatchBool};
 ghost use Rattle.snmpsec_config.specs.Refusals.{user_refusal, vacm_refusal, wrong_name, refusal_line};
-ghost use Rattle.snmpsec_config.specs.Shown.{shown_key};
-ghost use Rattle.snmpsec_config.specs.Told.{wrong_words, near_words, top_words, IsKeyWords, IsWhy};
-ghost use Rattle.snmpsec_config.specs.declared.table.ConfigKey.{ConfigKey as AKey};
 ghost use Rattle.snmpsec_config.specs.declared.fault.ConfigFault.TheVariants.{OutOfMemory};
 
 use crate::near::nearest;
@@ -32,9 +27,7 @@ pub enum KeyFault {
 
 impl KeyFault {
     /// What is wrong with a row of this table, and what is wanted, in words.
-    fn words(&self, alloc: Global, table: ConfigTable) -> Result<String, AllocError>
-        ensures { IfOk result (λ words. IsKeyWords table self.now (string_bytes words)) }
-    {
+    fn words(&self, alloc: Global, table: ConfigTable) -> Result<String, AllocError> {
         match self {
             KeyFault::Unlisted { key } => unlisted_words(alloc, table, key.as_str()),
             KeyFault::Missing { key } => {
@@ -45,33 +38,17 @@ impl KeyFault {
     }
 }
 
-/// The words for a key that is shown like this, and isn't listed, with a listed one that is like it.
-fn near_told(alloc: Global, shown: &str, near: Option<ConfigKey>) -> Result<String, AllocError>
-    ensures { IfOk result (λ words. string_bytes words
-        ≡ shown.now ++ (codes ": not a key of this table" ++ near_words near)) }
-{
-    match near {
+/// The words for a key that the table doesn't list, with a listed one that is like it.
+fn unlisted_words(alloc: Global, table: ConfigTable, key: &str) -> Result<String, AllocError> {
+    let shown = shown_key(alloc, key)?;
+    match nearest(table, key) {
         Some(near) => format!(in alloc; "{shown}: not a key of this table, the nearest is {near}"),
         None => format!(in alloc; "{shown}: not a key of this table"),
     }
 }
 
-/// The words for a key that the table doesn't list.
-fn unlisted_words(alloc: Global, table: ConfigTable, key: &str) -> Result<String, AllocError>
-    ensures { IfOk result
-        (λ words. (near : Option AKey) × IfSome near (Contains (listed table))
-        × (string_bytes words
-        ≡ shown_key key.now ++ (codes ": not a key of this table" ++ near_words near))) }
-{
-    let near = nearest(table, key);
-    let shown = shown_key(alloc, key)?;
-    near_told(alloc, shown.as_str(), near)
-}
-
 /// The words for a key that has no place at the top.
-fn top_words(alloc: Global, key: &str) -> Result<String, AllocError>
-    ensures { IfOk result (λ words. string_bytes words ≡ top_words key.now) }
-{
+fn top_words(alloc: Global, key: &str) -> Result<String, AllocError> {
     let shown = shown_key(alloc, key)?;
     format!(in alloc;
         "{shown}: at the top stand the arrays of tables user, context, group, access and family, and nothing else"
@@ -139,9 +116,7 @@ impl LoadFault {
     }
 
     /// What is wrong with a row of this table, and what is wanted, in words.
-    fn words(self, table: ConfigTable) -> &'static str
-        ensures { result.now ≡ wrong_words table self }
-    {
+    fn words(self, table: ConfigTable) -> &'static str {
         match self {
             LoadFault::BadUser => {
                 "a name of 1 to 32 octets is wanted, and a priv-password only beside auth and auth-password"
@@ -172,9 +147,7 @@ impl ConfigFault {
 
     /// What is wrong with the text and what is wanted, in words, for who wrote it. Of a text that isn't TOML
     /// it is where in the text, counted from 1, and the TOML reader's own words.
-    pub fn why(&self, alloc: Global) -> Result<String, AllocError>
-        ensures { IfOk result (λ words. IsWhy self.now (string_bytes words)) }
-    {
+    pub fn why(&self, alloc: Global) -> Result<String, AllocError> {
         match self {
             ConfigFault::Nested { line, column } => format!(in alloc;
                 "line {line}, column {column}: 16 brackets are open, and no more may be"

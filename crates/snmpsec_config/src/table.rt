@@ -2,7 +2,6 @@
 
 ghost use Rattle.std.specs.Prelude.{◌≡◌, Some, MatchBool};
 ghost use Rattle.snmpsec_config.specs.Keys.{table_name, key_name, listed, IsListed};
-ghost use Rattle.snmpsec_config.specs.Told.{bad_words, index_words};
 
 use std::fmt;
 use vacm_core::Table;
@@ -76,9 +75,7 @@ impl ConfigTable {
     }
 
     /// What no row of it may have, in words.
-    pub(crate) fn bad_words(self) -> &'static str
-        ensures { result.now ≡ bad_words self }
-    {
+    pub(crate) fn bad_words(self) -> &'static str {
         match self {
             ConfigTable::User => "its name or its passwords are none that a user can have",
             ConfigTable::Context => "no such row",
@@ -91,9 +88,7 @@ impl ConfigTable {
     }
 
     /// That a row has the index of an earlier one, in words.
-    pub(crate) fn index_words(self) -> &'static str
-        ensures { result.now ≡ index_words self }
-    {
+    pub(crate) fn index_words(self) -> &'static str {
         match self {
             ConfigTable::User | ConfigTable::Context => "an earlier row has this name",
             ConfigTable::Group => "an earlier row has this model and name",

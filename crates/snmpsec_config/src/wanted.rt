@@ -1,7 +1,6 @@
 //! What is wanted at the keys of a configuration.
 
-ghost use Rattle.std.specs.Prelude.{◌≡◌, Some};
-ghost use Rattle.snmpsec_config.specs.Told.{wanted_words};
+ghost use Rattle.std.specs.Prelude.{◌≡◌};
 ghost use Rattle.snmpsec_config.specs.Values.{wanted_at};
 
 use crate::table::{ConfigKey, ConfigTable};
@@ -47,12 +46,11 @@ impl Wanted {
             | ConfigKey::View => { Wanted::Name }
         }
     }
+}
 
-    /// What is wanted, in words.
-    pub fn words(self) -> &'static str
-        ensures { result.now ≡ wanted_words self }
-    {
-        match self {
+impl fmt::Display for Wanted {
+    fn fmt<W: fmt::Write>(&self, f: &mut fmt::Formatter<W>) -> fmt::Result {
+        f.write_str(match self {
             Wanted::Text => "a text",
             Wanted::Name => "a text of at most 32 octets",
             Wanted::Model => "a whole number from 0 to 2147483647",
@@ -62,14 +60,6 @@ impl Wanted {
             Wanted::Mask => "at most 16 octets in hex",
             Wanted::Flag => "true or false",
             Wanted::Auth => "one of md5, sha1, sha256",
-        }
-    }
-}
-
-impl fmt::Display for Wanted {
-    ghost output = { λ wanted. Some (wanted_words wanted) };
-
-    fn fmt<W: fmt::Write>(&self, f: &mut fmt::Formatter<W>) -> fmt::Result {
-        f.write_str(self.words())
+        })
     }
 }

@@ -32,67 +32,30 @@ use Rattle.snmpsec_gate_config.specs.declared.table.GateTable.TheVariants as tab
 use Rattle.snmpsec_gate_config.specs.Rows.{IsDevice, IsReceiver}
 use Rattle.snmpsec_gate_config.specs.Receivers.{IsFirstUnfit}
 use Rattle.snmpsec_gate_config.specs.Documents.{IsTop, IsWritten, HasGate, HasDevices, HasReceivers, devices_of, receivers_of}
-use Rattle.snmpsec_gate_config.specs.Refusals.{Says, Refuses, RefusesDocument, TellsNoGate, TellsNoDevices, TellsNoReceivers, TellsNoRows, TellsNoTable, device_refusal, receiver_refusal, user_fault, access_fault}
+use Rattle.snmpsec_gate_config.specs.Refusals.{Says, Refuses, RefusesDocument, TellsNoDevices, TellsNoReceivers, TellsNoRows, TellsNoTable, device_refusal, receiver_refusal, user_fault, access_fault}
 
 -- ---- documents
 
 pub no_document : (text : List ℕ) (f : ConfigFault) → TellsNoDocument text f → Refuses text (faults.Config f)
 no_document text (config_faults.Nested line column) h = h
 no_document text (config_faults.Toml fault) h = h
-no_document text (config_faults.Top key) h = absurd h
-no_document text (config_faults.BadKey of position fault) h = absurd h
-no_document text (config_faults.Row of position wrong) h = absurd h
 no_document text config_faults.OutOfMemory h = tt
-
-pub no_gate : (d : Members) (f : GateFault) → IsTop d → TellsNoGate d f → RefusesDocument d f
-no_gate d (faults.Top key) top h = absurd h
-no_gate d (faults.Gate fault) top h = (record { top = top; no_gate = h.1 }, h.0)
-no_gate d (faults.Device position fault) top h = absurd h
-no_gate d (faults.Duplicate position) top h = absurd h
-no_gate d (faults.Receiver position fault) top h = absurd h
-no_gate d (faults.Unfit position fault) top h = absurd h
-no_gate d (faults.Config (config_faults.Nested line column)) top h = absurd h
-no_gate d (faults.Config (config_faults.Toml fault)) top h = absurd h
-no_gate d (faults.Config (config_faults.Top key)) top h = absurd h
-no_gate d (faults.Config (config_faults.BadKey of position fault)) top h = absurd h
-no_gate d (faults.Config (config_faults.Row of position wrong)) top h = absurd h
-no_gate d (faults.Config config_faults.OutOfMemory) top h = tt
+no_document text _ h = absurd h
 
 pub no_devices : (d : Members) (f : GateFault) → IsTop d → HasGate d → TellsNoDevices d f → RefusesDocument d f
-no_devices d (faults.Top key) top gate h = absurd h
-no_devices d (faults.Gate fault) top gate h = absurd h
 no_devices d (faults.Device position fault) top gate h = (record { top = top; gate = gate; first = h.0 }, h.1)
-no_devices d (faults.Duplicate position) top gate h = absurd h
-no_devices d (faults.Receiver position fault) top gate h = absurd h
-no_devices d (faults.Unfit position fault) top gate h = absurd h
-no_devices d (faults.Config (config_faults.Nested line column)) top gate h = absurd h
-no_devices d (faults.Config (config_faults.Toml fault)) top gate h = absurd h
-no_devices d (faults.Config (config_faults.Top key)) top gate h = absurd h
-no_devices d (faults.Config (config_faults.BadKey of position fault)) top gate h = absurd h
-no_devices d (faults.Config (config_faults.Row of position wrong)) top gate h = absurd h
 no_devices d (faults.Config config_faults.OutOfMemory) top gate h = tt
+no_devices d _ top gate h = absurd h
 
 pub no_receivers : (d : Members) (f : GateFault) → IsTop d → HasGate d → HasDevices d → TellsNoReceivers d f → RefusesDocument d f
-no_receivers d (faults.Top key) top gate devices h = absurd h
-no_receivers d (faults.Gate fault) top gate devices h = absurd h
-no_receivers d (faults.Device position fault) top gate devices h = absurd h
-no_receivers d (faults.Duplicate position) top gate devices h = absurd h
 no_receivers d (faults.Receiver position fault) top gate devices h = (record { top = top; gate = gate; devices = devices; first = h.0 }, h.1)
-no_receivers d (faults.Unfit position fault) top gate devices h = absurd h
-no_receivers d (faults.Config (config_faults.Nested line column)) top gate devices h = absurd h
-no_receivers d (faults.Config (config_faults.Toml fault)) top gate devices h = absurd h
-no_receivers d (faults.Config (config_faults.Top key)) top gate devices h = absurd h
-no_receivers d (faults.Config (config_faults.BadKey of position fault)) top gate devices h = absurd h
-no_receivers d (faults.Config (config_faults.Row of position wrong)) top gate devices h = absurd h
 no_receivers d (faults.Config config_faults.OutOfMemory) top gate devices h = tt
+no_receivers d _ top gate devices h = absurd h
 
 pub no_rows : (d : Members) (f : ConfigFault) → IsTop d → HasGate d → HasDevices d → HasReceivers d → TellsNoRows d f → RefusesDocument d (faults.Config f)
-no_rows d (config_faults.Nested line column) top gate devices receivers h = absurd h
-no_rows d (config_faults.Toml fault) top gate devices receivers h = absurd h
-no_rows d (config_faults.Top key) top gate devices receivers h = absurd h
 no_rows d (config_faults.BadKey of position fault) top gate devices receivers h = (record { top = top; gate = gate; devices = devices; receivers = receivers; first = h.0 }, h.1)
-no_rows d (config_faults.Row of position wrong) top gate devices receivers h = absurd h
 no_rows d config_faults.OutOfMemory top gate devices receivers h = tt
+no_rows d _ top gate devices receivers h = absurd h
 
 -- ---- a device, a receiver
 
@@ -111,12 +74,9 @@ tells_receiver d position table_faults.OutOfMemory t first there h = tt
 pub tells_row : {R : Type 0} (of : ConfigTable) (Stands : Members → R → Type 0) (d : Members) (f : ConfigFault) → TellsBadRow of Stands d f → IsWritten of
     → ((position : ℕ) → IsFirstBad Stands (values_of d of) position → IsFirstBadOf d of position)
     → ((other : ConfigTable) → IsWritten other → table_number other < table_number of → HasRows d other) → TellsNoRows d f
-tells_row of Stands d (config_faults.Nested line column) h written first before = absurd h
-tells_row of Stands d (config_faults.Toml fault) h written first before = absurd h
-tells_row of Stands d (config_faults.Top key) h written first before = absurd h
 tells_row of Stands d (config_faults.BadKey name position fault) h written first before = rw h.0 (record { written = written; first = first position h.1; before = before }, h.2)
-tells_row of Stands d (config_faults.Row name position wrong) h written first before = absurd h
 tells_row of Stands d config_faults.OutOfMemory h written first before = tt
+tells_row of Stands d _ h written first before = absurd h
 
 -- the tables before each
 pub before_user : (d : Members) (other : ConfigTable) → IsWritten other → table_number other < 0 → HasRows d other
@@ -125,16 +85,13 @@ before_user d other w lt = absurd (omega (arith, lt))
 pub before_group : (d : Members) → HasRows d User → (other : ConfigTable) → IsWritten other → table_number other < 2 → HasRows d other
 before_group d u User w lt = u
 before_group d u Context w lt = absurd w
-before_group d u Group w lt = absurd (omega (arith, lt))
-before_group d u Access w lt = absurd (omega (arith, lt))
-before_group d u Family w lt = absurd (omega (arith, lt))
+before_group d u _ w lt = absurd (omega (arith, lt))
 
 pub before_access : (d : Members) → HasRows d User → HasRows d Group → (other : ConfigTable) → IsWritten other → table_number other < 3 → HasRows d other
 before_access d u g User w lt = u
 before_access d u g Context w lt = absurd w
 before_access d u g Group w lt = g
-before_access d u g Access w lt = absurd (omega (arith, lt))
-before_access d u g Family w lt = absurd (omega (arith, lt))
+before_access d u g _ w lt = absurd (omega (arith, lt))
 
 pub before_family : (d : Members) → HasRows d User → HasRows d Group → HasRows d Access → (other : ConfigTable) → IsWritten other → table_number other < 4 → HasRows d other
 before_family d u g a User w lt = u
@@ -162,22 +119,15 @@ no_bad_context rows position h = never_bad_at position (take position rows.conte
 
 module _ (text : List ℕ) (gate : GateSettings) (devices : List DeviceSettings) (receivers : List ReceiverSettings) (users : List UserRow) (rows : Tables) (s : Says text gate devices receivers users rows) where
   pub user_told : (f : UserFault) → user_rows.IsTold users f → Refuses text (user_fault f)
-  user_told (user_faults.BadUser position) h = (s.document, s.is_document, (gate, devices, receivers, users, rows, s.stands, tt, h))
-  user_told (user_faults.ShortPassword position) h = (s.document, s.is_document, (gate, devices, receivers, users, rows, s.stands, tt, h))
-  user_told (user_faults.DuplicateUser position) h = (s.document, s.is_document, (gate, devices, receivers, users, rows, s.stands, tt, h))
   user_told user_faults.OutOfMemory h = tt
+  user_told _ h = (s.document, s.is_document, (gate, devices, receivers, users, rows, s.stands, tt, h))
 
   pub access_told : user_rows.AreSound users → (f : VacmFault) → access_rows.IsTold rows f → Refuses text (access_fault f)
   access_told sound (vacm_faults.BadRow vacm_tables.Contexts position) h = absurd (no_bad_context rows position h)
-  access_told sound (vacm_faults.BadRow vacm_tables.Groups position) h = (s.document, s.is_document, (gate, devices, receivers, users, rows, s.stands, tt, (sound, h)))
-  access_told sound (vacm_faults.BadRow vacm_tables.Access position) h = (s.document, s.is_document, (gate, devices, receivers, users, rows, s.stands, tt, (sound, h)))
-  access_told sound (vacm_faults.BadRow vacm_tables.Families position) h = (s.document, s.is_document, (gate, devices, receivers, users, rows, s.stands, tt, (sound, h)))
   access_told sound (vacm_faults.Duplicate vacm_tables.Contexts position) h =
       (s.document, s.is_document, record { gate = gate; devices = devices; receivers = receivers; users = users; rows = rows; stands = s.stands; sound_users = sound; duplicate = h })
-  access_told sound (vacm_faults.Duplicate vacm_tables.Groups position) h = (s.document, s.is_document, (gate, devices, receivers, users, rows, s.stands, tt, (sound, h)))
-  access_told sound (vacm_faults.Duplicate vacm_tables.Access position) h = (s.document, s.is_document, (gate, devices, receivers, users, rows, s.stands, tt, (sound, h)))
-  access_told sound (vacm_faults.Duplicate vacm_tables.Families position) h = (s.document, s.is_document, (gate, devices, receivers, users, rows, s.stands, tt, (sound, h)))
   access_told sound vacm_faults.OutOfMemory h = tt
+  access_told sound _ h = (s.document, s.is_document, (gate, devices, receivers, users, rows, s.stands, tt, (sound, h)))
 
   pub unfit_told : user_rows.AreSound users → access_rows.AreSound rows → (position : ℕ) (fault : ReceiverFault) → IsFirstUnfit users receivers position fault → Refuses text (faults.Unfit position fault)
   unfit_told sound sound_rows position fault h =

@@ -19,7 +19,7 @@ use Rattle.snmpsec_gate_config.specs.declared.table.GateKey.{GateKey}
 use Rattle.snmpsec_gate_config.specs.declared.table.GateKey.TheVariants as keys
 use Rattle.snmpsec_gate_config.specs.declared.table.LimitKey.{LimitKey}
 use Rattle.snmpsec_gate_config.specs.declared.table.LimitKey.TheVariants as limits
-use Rattle.snmpsec_gate_config.specs.declared.fault.GateKeyFault.TheVariants.{Missing, Value, Unlisted}
+use Rattle.snmpsec_gate_config.specs.declared.fault.GateKeyFault.TheVariants.{Missing, Unlisted}
 use Rattle.snmpsec_gate_config.specs.declared.fault.GateTableFault.{GateTableFault}
 use Rattle.snmpsec_gate_config.specs.declared.fault.GateTableFault.TheVariants as table_faults
 
@@ -129,9 +129,8 @@ not_only of key (member name value others) (inr later) h = not_only of key other
 pub tells_unlisted : {R : Type 0} (of : GateTable) (Stands : Members → R → Type 0) (row : Members) (f : GateTableFault) → TellsUnlisted of row f
     → ((made : R) → Stands row made → HasOnlyListed of row) → TellsNoTable of Stands row f
 tells_unlisted of Stands row (table_faults.Key (Unlisted key)) h only = (h, λ made stands. not_only of _ row h (only made stands))
-tells_unlisted of Stands row (table_faults.Key (Missing key)) h only = absurd h
-tells_unlisted of Stands row (table_faults.Key (Value key)) h only = absurd h
 tells_unlisted of Stands row table_faults.OutOfMemory h only = tt
+tells_unlisted of Stands row _ h only = absurd h
 
 -- addresses that aren't right, after an engine ID and a path that are
 pub tells_addresses : (row : Members) (f : GateTableFault) → HasOnlyListed tables.Gate row → IsRightAt row keys.Engine → IsRightAt row keys.Boots → TellsNoAddresses row keys.Listen f → TellsNoTable tables.Gate IsGate row f

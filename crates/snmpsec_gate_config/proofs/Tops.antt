@@ -4,7 +4,7 @@ use Rattle.std.proofs.lemmas.Bool.{false≢true}
 use Rattle.std.proofs.lemmas.Option.{same_Some}
 use Rattle.std.proofs.Common.{nat_cmp}
 use Rattle.std.specs.Cmp.Lexicographic.{slice_cmp}
-use Rattle.toml.specs.Data.{Data, string, integer, float, boolean, datetime, array, table, Members, no_members, member, get_member, as_table}
+use Rattle.toml.specs.Data.{Data, array, table, Members, no_members, member, get_member, as_table}
 use Rattle.toml.specs.View.{view}
 use Rattle.toml.specs.declared.value.Value.{Value}
 use Rattle.snmpsec_config.specs.Documents.{AreTables, values_in}
@@ -15,11 +15,7 @@ tables_in : (name : List ℕ) (d : Data) → IsTopMember name d → AreTables (v
 tables_in name (array values) (inl h) = absurd h.1
 tables_in name (array values) (inr h) = h.1
 tables_in name (table t) h = tt
-tables_in name (string s) h = tt
-tables_in name (integer z) h = tt
-tables_in name (float x) h = tt
-tables_in name (boolean b) h = tt
-tables_in name (datetime dt) h = tt
+tables_in name _ h = tt
 
 pub top_tables : (key : List ℕ) (document : Members) → IsTop document → AreTables (values_in (get_member key document))
 top_tables key no_members h = tt
@@ -29,21 +25,11 @@ top_tables key (member name d others) h = either_tables (slice_cmp nat_cmp key n
 
 members_other : (d : Data) → as_table d ≡ None → members_in (Some d) ≡ no_members
 members_other (table t) h = absurd (false≢true (ap is_some (sym h)))
-members_other (array values) h = refl
-members_other (string s) h = refl
-members_other (integer z) h = refl
-members_other (float x) h = refl
-members_other (boolean b) h = refl
-members_other (datetime dt) h = refl
+members_other _ h = refl
 
 members_there : (d : Data) (t : Members) → as_table d ≡ Some t → t ≡ members_in (Some d)
 members_there (table s) t h = same_Some _ _ (sym h)
-members_there (array values) t h = absurd (false≢true (ap is_some h))
-members_there (string s) t h = absurd (false≢true (ap is_some h))
-members_there (integer z) t h = absurd (false≢true (ap is_some h))
-members_there (float x) t h = absurd (false≢true (ap is_some h))
-members_there (boolean b) t h = absurd (false≢true (ap is_some h))
-members_there (datetime dt) t h = absurd (false≢true (ap is_some h))
+members_there _ t h = absurd (false≢true (ap is_some h))
 
 pub table_absent : (r : Option (Bor Value)) (g : Option Data) → option_map (λ x. view x.now) r ≡ g → r ≡ None → members_in g ≡ no_members
 table_absent r g e n = rw (← e, n) refl

@@ -46,12 +46,8 @@ level_of_word : (l m : Level) → length (level_word l) ≡ length (level_word m
 level_of_word NoAuthNoPriv NoAuthNoPriv e = refl
 level_of_word AuthNoPriv AuthNoPriv e = refl
 level_of_word AuthPriv AuthPriv e = refl
-level_of_word NoAuthNoPriv AuthNoPriv e = absurd (omega (arith, e))
-level_of_word NoAuthNoPriv AuthPriv e = absurd (omega (arith, e))
-level_of_word AuthNoPriv NoAuthNoPriv e = absurd (omega (arith, e))
-level_of_word AuthNoPriv AuthPriv e = absurd (omega (arith, e))
-level_of_word AuthPriv NoAuthNoPriv e = absurd (omega (arith, e))
-level_of_word AuthPriv AuthNoPriv e = absurd (omega (arith, e))
+level_of_word _ AuthPriv e = absurd (omega (arith, e))
+level_of_word _ _ e = absurd (omega (arith, e))
 
 same_level : (v : Option Data) (a b : Level) → IsLevel v a → IsLevel v b → a ≡ b
 same_level v a b h k = level_of_word a b (ap length (same_text v (level_word a) (level_word b) h k))

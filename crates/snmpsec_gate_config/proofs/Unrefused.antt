@@ -90,15 +90,13 @@ module _ (text : List ℕ) (gate : GateSettings) (devices : List DeviceSettings)
   said o = record { document = s.says.document; is_document = s.says.is_document; stands = o }
 
   no_rows_cause : (fault : ConfigFault) → (fault ≡ config_faults.OutOfMemory → ⊥) → RefusesRows s.says.document fault → ⊥
-  no_rows_cause (config_faults.Nested line column) memory h = absurd h
-  no_rows_cause (config_faults.Toml fault) memory h = absurd h
-  no_rows_cause (config_faults.Top key) memory h = absurd h
   no_rows_cause (config_faults.BadKey of position fault) memory h = no_bad_row of position h.0.first.written h.0.first.first
   no_rows_cause (config_faults.Row of position wrong) memory h =
       let o = said h.5 in
       let same : h.4 ≡ rows = sym (same_tables text gate h.0 devices h.1 receivers h.2 users h.3 rows h.4 s.says o) in
       no_row of position wrong h.3 h.6 (same_users text gate h.0 devices h.1 receivers h.2 users h.3 rows h.4 s.says o) (rw same at h.7)
   no_rows_cause config_faults.OutOfMemory memory h = memory refl
+  no_rows_cause _ memory h = absurd h
 
   no_duplicate : (position : ℕ) → IsDuplicateAt s.says.document position → ⊥
   no_duplicate position h =

@@ -5,6 +5,5 @@ pub mod Rows
 pub mod Documents
 pub mod Receivers
 pub mod Refusals
-pub mod Told
 pub mod Oddities
 pub mod Views

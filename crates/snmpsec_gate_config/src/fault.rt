@@ -1,16 +1,10 @@
 //! Why a gateway's configuration is refused, and how that is printed.
 
-ghost use Rattle.std.specs.Prelude.{◌≡◌, ◌≢◌, ◌++◌, codes, Option, Some, IfOk, IfSome, Contains, MatchBool};
-ghost use Rattle.std.specs.Prelude.{string_bytes};
-ghost use Rattle.snmpsec_config.specs.Shown.{shown_key};
+ghost use Rattle.std.specs.Prelude.{◌≡◌, ◌≢◌, Some, MatchBool};
 ghost use Rattle.snmpsec_config.specs.declared.fault.ConfigFault.TheVariants as config_faults;
-ghost use Rattle.snmpsec_gate_config.specs.Keys.{listed};
 ghost use Rattle.snmpsec_gate_config.specs.Refusals.{key_fault, user_fault, access_fault, refusal_line, unfit_word};
-ghost use Rattle.snmpsec_gate_config.specs.Told.{wanted_words, near_words, top_words, IsKeyWords, IsWhy};
-ghost use Rattle.snmpsec_gate_config.specs.Told.{receiver_words, unfit_words};
 ghost use Rattle.snmpsec_gate_config.specs.declared.fault.GateTableFault.TheVariants as table_faults;
 ghost use Rattle.snmpsec_gate_config.specs.declared.fault.GateFault.TheVariants as faults;
-ghost use Rattle.snmpsec_gate_config.specs.declared.table.GateKey.{GateKey as AKey};
 
 use crate::near::nearest;
 use crate::receiver::{ReceiverFault, UnfitReceiver};
@@ -107,9 +101,7 @@ pub enum GateFault {
 }
 
 /// What is expected at a key, in words.
-fn wanted_words(alloc: Global, key: GateKey) -> Result<String, AllocError>
-    ensures { IfOk result (λ words. string_bytes words ≡ wanted_words key) }
-{
+fn wanted_words(alloc: Global, key: GateKey) -> Result<String, AllocError> {
     match key {
         GateKey::Engine => format!(in alloc; "an engine ID of 5 to 32 octets in hex"),
         GateKey::Boots => format!(in alloc; "the path of a file"),
@@ -136,34 +128,18 @@ fn wanted_words(alloc: Global, key: GateKey) -> Result<String, AllocError>
     }
 }
 
-/// The words for a key that is shown like this, and isn't listed, with a listed one that is like it.
-fn near_told(alloc: Global, shown: &str, near: Option<GateKey>) -> Result<String, AllocError>
-    ensures { IfOk result (λ words. string_bytes words
-        ≡ shown.now ++ (codes ": not a key of this table" ++ near_words near)) }
-{
-    match near {
+/// The words for a key that the table doesn't list, with a listed one that is like it.
+fn unlisted_words(alloc: Global, table: GateTable, key: &str) -> Result<String, AllocError> {
+    let shown = shown_key(alloc, key)?;
+    match nearest(table, key) {
         Some(near) => format!(in alloc; "{shown}: not a key of this table, the nearest is {near}"),
         None => format!(in alloc; "{shown}: not a key of this table"),
     }
 }
 
-/// The words for a key that the table doesn't list.
-fn unlisted_words(alloc: Global, table: GateTable, key: &str) -> Result<String, AllocError>
-    ensures { IfOk result
-        (λ words. (near : Option AKey) × IfSome near (Contains (listed table))
-        × (string_bytes words
-        ≡ shown_key key.now ++ (codes ": not a key of this table" ++ near_words near))) }
-{
-    let near = nearest(table, key);
-    let shown = shown_key(alloc, key)?;
-    near_told(alloc, shown.as_str(), near)
-}
-
 impl GateKeyFault {
     /// What is wrong with a row of this table, and what is expected, in words.
-    fn words(&self, alloc: Global, table: GateTable) -> Result<String, AllocError>
-        ensures { IfOk result (λ words. IsKeyWords table self.now (string_bytes words)) }
-    {
+    fn words(&self, alloc: Global, table: GateTable) -> Result<String, AllocError> {
         match self {
             GateKeyFault::Unlisted { key } => unlisted_words(alloc, table, key.as_str()),
             GateKeyFault::Missing { key } => {
@@ -179,9 +155,7 @@ impl GateKeyFault {
 }
 
 /// The words for a key that has no place at the top.
-fn top_words(alloc: Global, key: &str) -> Result<String, AllocError>
-    ensures { IfOk result (λ words. string_bytes words ≡ top_words key.now) }
-{
+fn top_words(alloc: Global, key: &str) -> Result<String, AllocError> {
     let shown = shown_key(alloc, key)?;
     format!(in alloc;
         "{shown}: at the top are the table gate and the arrays of tables device, receiver, user, group, \
@@ -190,9 +164,7 @@ fn top_words(alloc: Global, key: &str) -> Result<String, AllocError>
 }
 
 /// The words for a receiver to which notifications can't be sent.
-fn unfit_words(alloc: Global, position: usize, fault: ReceiverFault) -> Result<String, AllocError>
-    ensures { IfOk result (λ words. string_bytes words ≡ receiver_words position (unfit_words fault)) }
-{
+fn unfit_words(alloc: Global, position: usize, fault: ReceiverFault) -> Result<String, AllocError> {
     let why = match fault {
         ReceiverFault::UnknownUser => "no user has this name",
         ReceiverFault::UnsupportedLevel => "its user has no passwords for this level",
@@ -215,9 +187,7 @@ impl GateFault {
 
     /// Returns what is wrong with the text and what is expected, in words, for who wrote it. Of a text that isn't TOML
     /// it is where in the text, counted from 1, and the TOML reader's own words.
-    pub fn why(&self, alloc: Global) -> Result<String, AllocError>
-        ensures { IfOk result (λ words. IsWhy self.now (string_bytes words)) }
-    {
+    pub fn why(&self, alloc: Global) -> Result<String, AllocError> {
         match self {
             GateFault::Top { key } => top_words(alloc, key.as_str()),
             GateFault::Gate { fault } => {

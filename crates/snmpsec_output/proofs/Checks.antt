@@ -15,8 +15,4 @@ at_map f (x ∷ xs) (suc k) d = at_map f xs k d
 -- no answer is the line for a text that isn't TOML
 pub no_refusal : (answer : Access) → access_word answer ++ codes "\n" ≡ codes "refused config toml\n" → ⊥
 no_refusal answers.AccessAllowed e = let bad : 97 ≡ 114 = ap (λ (t : List ℕ). get_or t 0 0) e in absurd (omega (arith, bad))
-no_refusal answers.NotInView e = let bad : 110 ≡ 114 = ap (λ (t : List ℕ). get_or t 0 0) e in absurd (omega (arith, bad))
-no_refusal answers.NoSuchView e = let bad : 110 ≡ 114 = ap (λ (t : List ℕ). get_or t 0 0) e in absurd (omega (arith, bad))
-no_refusal answers.NoAccessEntry e = let bad : 110 ≡ 114 = ap (λ (t : List ℕ). get_or t 0 0) e in absurd (omega (arith, bad))
-no_refusal answers.NoGroupName e = let bad : 110 ≡ 114 = ap (λ (t : List ℕ). get_or t 0 0) e in absurd (omega (arith, bad))
-no_refusal answers.NoSuchContext e = let bad : 110 ≡ 114 = ap (λ (t : List ℕ). get_or t 0 0) e in absurd (omega (arith, bad))
+no_refusal _ e = let bad : 110 ≡ 114 = ap (λ (t : List ℕ). get_or t 0 0) e in absurd (omega (arith, bad))

@@ -1,7 +1,7 @@
 -- Why a message of version-1 or SNMPv2c is refused.
 use Rattle.std.proofs.Common.{◌≡◌, ℕ, List, Option, Some, None, refl, subst}
 use Rattle.std.specs.Prelude.{◌≢◌}
-use Rattle.snmp_message.specs.declared.refusal.Refusal.TheVariants.{NotMessage, BadVersion, NotSecurity, NotScoped, NotPdu, UnknownEngine, UnknownUser, UnsupportedLevel, WrongDigest, NotInWindow, DecryptionError, BadScoped, BadPdu, OutOfMemory, ClockExhausted, TooLarge, UnknownModel, InvalidFlags}
+use Rattle.snmp_message.specs.declared.refusal.Refusal.TheVariants.{NotMessage, BadVersion, NotSecurity}
 use Rattle.snmp_message.specs.declared.refusal.Refusal.{Refusal}
 use Rattle.snmp_community.specs.Layout.{OtherVersion}
 use Rattle.snmp_community.specs.Faults.{FaultsAt}
@@ -18,18 +18,4 @@ fault_parts w NotMessage None other h = absurd h
 fault_parts w BadVersion None other h = absurd (other refl)
 fault_parts w BadVersion (Some p) other h = absurd h
 fault_parts w NotSecurity at other h = absurd h
-fault_parts w NotScoped at other h = absurd h
-fault_parts w NotPdu at other h = absurd h
-fault_parts w UnknownEngine at other h = absurd h
-fault_parts w UnknownUser at other h = absurd h
-fault_parts w UnsupportedLevel at other h = absurd h
-fault_parts w WrongDigest at other h = absurd h
-fault_parts w NotInWindow at other h = absurd h
-fault_parts w DecryptionError at other h = absurd h
-fault_parts w BadScoped at other h = absurd h
-fault_parts w BadPdu at other h = absurd h
-fault_parts w OutOfMemory at other h = absurd h
-fault_parts w ClockExhausted at other h = absurd h
-fault_parts w TooLarge at other h = absurd h
-fault_parts w UnknownModel at other h = absurd h
-fault_parts w InvalidFlags at other h = absurd h
+fault_parts w _ at other h = absurd h

@@ -27,9 +27,7 @@ counted word count place next short within is e =
 -- what is reported of a part is reported of its word
 pub told_of_part : (word : List ℕ) (fault : VariableFault) (place : ℕ) (part : List ℕ) → slice_get (parts word) place ≡ Some part
     → AllByRecursion IsNumber (take place (parts word)) → TellsNumber (suc place) part fault → TellsVariable word fault
-told_of_part word faults.Empty place part there before told = absurd told
-told_of_part word (faults.DotInFront rest) place part there before told = absurd told
 told_of_part word (faults.Missing at) place part there before told = record { place = place; part = part; there = there; before = before; told = told }
 told_of_part word (faults.NoNumber at found) place part there before told = record { place = place; part = part; there = there; before = before; told = told }
 told_of_part word (faults.OutOfRange at found) place part there before told = record { place = place; part = part; there = there; before = before; told = told }
-told_of_part word (faults.TooMany count) place part there before told = absurd told
+told_of_part word _ place part there before told = absurd told

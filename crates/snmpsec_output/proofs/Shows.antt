@@ -1,6 +1,6 @@
 -- Which refusal of `show` comes of which fault of the codec.
 use Rattle.std.proofs.Common.{◌≡◌, ℕ, List, ◌<◌, length, ◌⊎◌, refl, sym, subst, inl, inr}
-use Rattle.snmp_message.specs.declared.refusal.Refusal.TheVariants.{NotMessage, BadVersion, NotSecurity, NotScoped, NotPdu, UnknownEngine, UnknownUser, UnsupportedLevel, WrongDigest, NotInWindow, DecryptionError, BadScoped, BadPdu, OutOfMemory, ClockExhausted, TooLarge, UnknownModel, InvalidFlags}
+use Rattle.snmp_message.specs.declared.refusal.Refusal.TheVariants.{NotMessage, BadVersion, NotSecurity, NotScoped, NotPdu, OutOfMemory, TooLarge}
 use Rattle.snmp_message.specs.declared.refusal.Refusal.{Refusal}
 use Rattle.snmp_msg.specs.Canonical.{Whole, Says, whole_text}
 use Rattle.snmp_msg.specs.Refusals.{RefusesWhole}
@@ -12,19 +12,7 @@ whole_refused w BadVersion none = none
 whole_refused w NotSecurity none = none
 whole_refused w NotScoped none = none
 whole_refused w NotPdu none = none
-whole_refused w UnknownEngine none = absurd none
-whole_refused w UnknownUser none = absurd none
-whole_refused w UnsupportedLevel none = absurd none
-whole_refused w WrongDigest none = absurd none
-whole_refused w NotInWindow none = absurd none
-whole_refused w DecryptionError none = absurd none
-whole_refused w BadScoped none = absurd none
-whole_refused w BadPdu none = absurd none
-whole_refused w OutOfMemory none = absurd none
-whole_refused w ClockExhausted none = absurd none
-whole_refused w TooLarge none = absurd none
-whole_refused w UnknownModel none = absurd none
-whole_refused w InvalidFlags none = absurd none
+whole_refused w _ none = absurd none
 
 pub write_refused : (w : List ℕ) (m : Whole) (r : Refusal) → Says w m → (r ≡ TooLarge) ⊎ (r ≡ OutOfMemory) → (r ≡ TooLarge → 65507 < length (whole_text m)) → RefusesShow w r
 write_refused w m r says (inl is) large = subst (RefusesShow w) (sym is) (whole_text m, record { message = m; says = says; spelled = refl }, large is)

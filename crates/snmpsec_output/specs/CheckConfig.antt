@@ -1,14 +1,13 @@
 -- What `snmpsec check-config` makes of a configuration.
 --
--- `ChecksConfig config printed`. It stands for rows, and the status is 0; or its refusal is printed, and beside it
--- what is wrong (`IsWhy`), with status 1. `ChecksHinted`: the same where hints are wanted (`hints_of`). In which words
--- rows are counted and hints given isn't defined.
+-- `ChecksConfig config printed`. It stands for rows, and the status is 0; or its refusal is printed, and beside it what
+-- is wrong, with status 1. `ChecksHinted`: the same where hints are wanted (`hints_of`). In which words rows are
+-- counted, hints are given and the wrong is explained isn't defined.
 use Rattle.std.specs.Prelude.{◌≡◌, ◌≢◌, ◌⊎◌, ℕ, List, [], ◌++◌, codes}
 use Rattle.usm_users.specs.declared.load.UserRow.{UserRow}
 use Rattle.vacm_core.specs.Tables.{Tables}
 use Rattle.snmpsec_config.specs.declared.fault.ConfigFault.{ConfigFault}
 use Rattle.snmpsec_config.specs.Refusals.{SaysSound, RefusesText, refusal_line}
-use Rattle.snmpsec_config.specs.Told.{IsWhy}
 use Rattle.snmpsec_access.specs.Hints.{hints_of}
 use Rattle.snmpsec_output.specs.Questions.{Printed}
 
@@ -27,7 +26,6 @@ pub record Explains (config : List ℕ) (printed : Printed) : Type 0 where
   pub told : RefusesText config fault
   pub out : printed.out ≡ refusal_line fault ++ codes "\n"
   pub why : List ℕ
-  pub is_why : IsWhy fault why
   pub err : printed.err ≡ codes "snmpsec: " ++ (why ++ codes "\n")
   pub status : printed.status ≡ 1
 

@@ -3,7 +3,6 @@
 ghost use Rattle.std.specs.Prelude.{◌≡◌, ◌≢◌, ◌++◌, [], ℕ, List, IfOk, codes};
 ghost use Rattle.vacm_core.specs.Tables.{tables_of};
 ghost use Rattle.snmpsec_config.specs.Refusals.{refusal_line};
-ghost use Rattle.snmpsec_config.specs.Told.{IsWhy};
 ghost use Rattle.snmpsec_output.specs.Questions.{Printed};
 ghost use Rattle.snmpsec_output.specs.CheckConfig.{ChecksConfig, ChecksHinted};
 ghost use Rattle.snmpsec_access.specs.Hints.{hints_of};
@@ -85,8 +84,7 @@ fn counts(alloc: Global, rows: &ConfigRows) -> Result<Output, AllocError>
 pub fn refusal_and_why(alloc: Global, fault: &ConfigFault) -> Result<Output, AllocError>
     ensures out { IfOk result (λ output. output.out.items ≡ refusal_line fault.now ++ codes "\n") }
     ensures err { IfOk result
-        (λ output. (why : List ℕ) × IsWhy fault.now why
-        × (output.err.items ≡ codes "snmpsec: " ++ (why ++ codes "\n"))) }
+        (λ output. (why : List ℕ) × (output.err.items ≡ codes "snmpsec: " ++ (why ++ codes "\n"))) }
     ensures status { IfOk result (λ output. output.status ≡ 1) }
 {
     let why = fault.why(alloc)?;

@@ -11,5 +11,5 @@ returns-in-Ok c =
 pub returns-in-Err-2 : goal.returns-in-Err-2
 returns-in-Err-2 c =
     let e = c.refusal_and_why.ensures in
-    of_three c.refusal_and_why.result (λ output out err status. inr (record { fault = c.in-Err.fault; told = record { cause = c.in-Err.ensures.refuses; no_memory = c.if-is_memory.ensures }; out = out; why = err.0; is_why = err.1; err = err.2; status = status }))
+    of_three c.refusal_and_why.result (λ output out err status. inr (record { fault = c.in-Err.fault; told = record { cause = c.in-Err.ensures.refuses; no_memory = c.if-is_memory.ensures }; out = out; why = err.0; err = err.1; status = status }))
     e.out e.err e.status
