@@ -24,24 +24,3 @@ pub struct GateLimits {
     /// True if a request that is given up is reported as snmpUnavailableContexts (RFC 3413, section 3.2).
     pub report_unreachable: bool,
 }
-
-impl Default for GateLimits {
-    /// Returns the limits of a gateway for which none are chosen.
-    fn default() -> GateLimits {
-        GateLimits {
-            waiting: 1_024,
-            waiting_per_device: 256,
-            joined: 16,
-            rounds: 64,
-            retries: Retries {
-                again: 1_000,
-                tries: 3,
-                last: 5_000,
-            },
-            gather: 500,
-            gathered: 262_028,
-            long_answers: false,
-            report_unreachable: false,
-        }
-    }
-}
