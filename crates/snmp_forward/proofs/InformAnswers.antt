@@ -1,6 +1,5 @@
 -- What an accepted message is to the Informs that wait.
 use Rattle.std.specs.Prelude.{◌≡◌, ◌≢◌, ◌/◌, ℕ, Bool, List, All, Option, Some, None, Ok, Err}
-use Rattle.std.specs.FinMap as map
 use Rattle.std.proofs.Common.{refl, sym, ap, subst, ◌∙◌}
 use Rattle.std.proofs.lemmas.Option.{same_Some}
 use Rattle.snmp_message.specs.Numbers.{in_table}

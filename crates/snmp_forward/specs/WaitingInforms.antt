@@ -8,7 +8,6 @@
 use Rattle.std.specs.Prelude.{◌≡◌, ◌≤◌, ℕ, Bool, List, [], All, Contains, Option, Some, None, Err, slice_get}
 use Rattle.std.specs.Prelude.{take}
 use Rattle.snmp_requests.specs.declared.device_request.Heard.{Heard}
-use Rattle.snmp_requests.specs.declared.device_request.Known.TheVariants as known
 use Rattle.snmp_requests.specs.declared.device_request.NextStep.{NextStep}
 use Rattle.snmp_requests.specs.declared.device_request.NextStep.TheVariants as step
 use Rattle.snmp_requests.specs.declared.device_request.SentMessage.{SentMessage}
