@@ -283,7 +283,7 @@ SNMPSEC_CHECK int snmpsec_kept_respond_front(snmpsec_kept *kept, snmpsec_agent *
                                              size_t list_len, uint64_t salt, uint32_t limit, size_t *count);
 
 /* What becomes of a variable (RFC 3413, section 3.2): it is answered; the error-status 6 or 16; its value is
- * noSuchObject; a walk goes on behind it; or the message is refused for SNMPSEC_UNKNOWN_CONTEXTS. */
+ * noSuchObject; a walk goes on after it; or the message is refused for SNMPSEC_UNKNOWN_CONTEXTS. */
 typedef enum snmpsec_status {
     SNMPSEC_NO_ERROR = 0, SNMPSEC_NO_ACCESS = 6, SNMPSEC_AUTHORIZATION_ERROR = 16, SNMPSEC_NO_SUCH_OBJECT = 128,
     SNMPSEC_NOT_SEEN = 256, SNMPSEC_UNKNOWN_CONTEXT = 257
@@ -781,7 +781,7 @@ typedef struct snmpsec_binding {
     size_t content_len;
 } snmpsec_binding;
 
-/* Reads the binding at the place *at of a list and moves *at behind it: SNMPSEC_BAD_ARGUMENT: *at isn't in the list;
+/* Reads the binding at the place *at of a list and moves *at after it: SNMPSEC_BAD_ARGUMENT: *at isn't in the list;
  * SNMPSEC_BAD_BINDINGS. So `for (size_t at = 0; at < len;)` goes through them. */
 SNMPSEC_CHECK int snmpsec_binding_read(const uint8_t *list, size_t list_len, size_t *at, snmpsec_binding *out);
 /* Writes a binding: SNMPSEC_BAD_ARGUMENT: the arcs are no identifier's, the tag's low five bits are all ones, or the

@@ -1,7 +1,7 @@
 //! What the calls on an agent do, without pointers.
 //!
 //! A call with much on the stack keeps a frame of its own (`inline(never)`): in one frame with all others it would be
-//! deeper than what lib/src wipes behind it.
+//! deeper than what lib/src wipes after it.
 
 ghost use Rattle.std.specs.Prelude.{◌≡◌};
 ghost use Rattle.snmp_c.specs.AgentCalls.{AgentCalled, AgentDoes, AgentCopies, ClearsAgent, WritesNextName};

@@ -7,7 +7,7 @@ use snmp_msg::value_is;
 
 /// Writes what becomes of a variable for which an agent told this answer on access, 0 to 5, in a request whose PDU has
 /// this tag (RFC 3413, section 3.2): 0 where it is answered, the error-status 6 (noAccess) or 16 (authorizationError),
-/// 128 where its value is noSuchObject, 256 where a walk goes on behind it, and 257 where the message is refused as of
+/// 128 where its value is noSuchObject, 256 where a walk goes on after it, and 257 where the message is refused as of
 /// an unknown context. It answers 0; or -1 where no answer has the number or the tag is above 255, and nothing is
 /// written then.
 #[unsafe(no_mangle)]

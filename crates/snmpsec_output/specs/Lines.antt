@@ -1,7 +1,7 @@
 -- The lines that are printed of a message.
 --
 -- `message_lines`, `scoped_lines`, `octets_line`. The lines of what a message says. `IsUnnamed`: they are printed so
--- if no names are asked for. No definition says what names stand behind them else.
+-- if no names are asked for. No definition says what names follow them else.
 use Rattle.std.specs.Prelude.{◌≡◌, ℕ, Bool, true, false, not, ◌&&◌, List, [], ◌∷◌, ◌++◌, codes, decimal}
 use Rattle.std.specs.List.{flat_map}
 use Rattle.std.specs.Fmt.{signed_decimal}

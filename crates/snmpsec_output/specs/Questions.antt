@@ -135,7 +135,7 @@ ChecksAccess config words printed = AnswersAs Answers config words printed
 
 -- ---- what decided
 
--- The answer over these rows is printed, and behind it what decided, in words that aren't defined.
+-- The answer over these rows is printed, and after it what decided, in words that aren't defined.
 pub record Explains (rows : Tables) (asked : Asked) (printed : Printed) : Type 0 where
   pub answer : Access
   pub allowed : Allowed rows asked.message asked.view asked.arcs answer

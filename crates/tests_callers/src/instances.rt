@@ -123,7 +123,7 @@ pub fn no_report_is_made_up()
 }
 
 /// No command in a context that is known is left without an answer that has room for one: before it is given up
-/// (`answered`), and where `report_unreachable` is on, but for a Set, behind that (`given_up`).
+/// (`answered`), and where `report_unreachable` is on, but for a Set, after that (`given_up`).
 pub fn no_message_is_dropped()
     ensures answered { (limits : GateLimits) (devices : List Device) (number now : ℕ) (datagram : List ℕ)
         (message : WaitingMessage) (by : Answering) (q : Question)
